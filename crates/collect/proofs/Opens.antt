@@ -104,15 +104,28 @@ found_answer s r zero y_a_of y_b_of = refl
 found_answer s r (suc k) y_a_of y_b_of = refl
 
 -- an answer shows the same of what was opened
-shown_refusal : {B : Type 0} (o : Result Numbers Refusal) (b : B) → refused (result_and o (Ok b)) ≡ (shown o).refusal
-shown_refusal (Ok y) b = refl
-shown_refusal (Err r) b = refl
+module _ (o : Result Numbers Refusal) where
+  pub shown_refusal : {B : Type 0} (b : B) (q : Result B Refusal) → q ≡ result_and o (Ok b) → refused q ≡ (shown o).refusal
+  shown_refusal b q e = ap refused e ∙ go o
+    where
+      go : (o : Result Numbers Refusal) → refused (result_and o (Ok b)) ≡ (shown o).refusal
+      go (Ok y) = refl
+      go (Err r) = refl
 
-shown_ends : (s : Session) (r k : ℕ) (o : Result Numbers Refusal) (d : Numbers) → d ≡ record { y_a = 0; y_b = 0 }
-    → answer k 0 (collected_triple s r (result_unwrap_or o d).y_a (result_unwrap_or o d).y_b) s
-    ≡ answer k 0 (collected_triple s r (shown o).y_a (shown o).y_b) s
-shown_ends s r k (Ok y) d e = refl
-shown_ends s r k (Err q) d e = rw e refl
+  module _ (n : Numbers) (e : n ≡ result_unwrap_or o (record { y_a = 0; y_b = 0 })) where
+    pub shown_a : n.y_a ≡ (shown o).y_a
+    shown_a = ap (λ (y : Numbers). y.y_a) e ∙ go o
+      where
+        go : (o : Result Numbers Refusal) → (result_unwrap_or o (record { y_a = 0; y_b = 0 })).y_a ≡ (shown o).y_a
+        go (Ok y) = refl
+        go (Err r) = refl
+
+    pub shown_b : n.y_b ≡ (shown o).y_b
+    shown_b = ap (λ (y : Numbers). y.y_b) e ∙ go o
+      where
+        go : (o : Result Numbers Refusal) → (result_unwrap_or o (record { y_a = 0; y_b = 0 })).y_b ≡ (shown o).y_b
+        go (Ok y) = refl
+        go (Err r) = refl
 
 module _ (s : Session) (rows : List ℕ) (r : ℕ) (l l' : List ℕ) where
   abbrev y_a_of : ℕ
@@ -139,23 +152,20 @@ module _ (s : Session) (rows : List ℕ) (r : ℕ) (l l' : List ℕ) where
       h ∙ ap (λ (k : ℕ). found k y_a_of y_b_of) (went_on (collect_checks_of s rows r l l') late tt 0 e (first late) refl refl)
 
   -- the call's end
-  module _ {B : Type 0} (b : B) (o : Result Numbers Refusal) (e : shown o ≡ opened_masks s rows r l l') (q : Result B Refusal)
-      (eq : q ≡ result_and o (Ok b)) where
-    refusal_shown : refused q ≡ (shown o).refusal
-    refusal_shown = ap refused eq ∙ shown_refusal o b
-
+  module _ {B : Type 0} (o : Result Numbers Refusal) (e : shown o ≡ opened_masks s rows r l l') (q : Result B Refusal)
+      (eq : refused q ≡ (shown o).refusal) where
     refusal_is : refused q ≡ collect_refusal s rows r l l'
-    refusal_is = refusal_shown ∙ ap (λ (a : OpenedMasks). a.refusal) e ∙ found_refusal (collect_refusal s rows r l l') y_a_of y_b_of
+    refusal_is = eq ∙ ap (λ (a : OpenedMasks). a.refusal) e ∙ found_refusal (collect_refusal s rows r l l') y_a_of y_b_of
 
     pub collect_allows : Allows (refused q) (r ≤ last_triple)
     collect_allows = record { allowed = λ n. (collected s rows r l l' (sym refusal_is ∙ n)).checked.placed.factors.triple_in }
 
     -- what stands for y and y' in a refused call is not looked at
-    pub collect_ended : (n : Numbers) → n ≡ result_unwrap_or o (record { y_a = 0; y_b = 0 }) → (a : Answer)
-        → a ≡ answer (refused q) 0 (collected_triple s r n.y_a n.y_b) s → a ≡ collect_answer s rows r l l'
-    collect_ended n en a h =
+    pub collect_ended : (y y' : ℕ) → y ≡ (shown o).y_a → y' ≡ (shown o).y_b → (a : Answer)
+        → a ≡ answer (refused q) 0 (collected_triple s r y y') s → a ≡ collect_answer s rows r l l'
+    collect_ended y y' ey ey' a h =
         h
-        ∙ ap₂ (λ (k : ℕ) (y : Numbers). answer k 0 (collected_triple s r y.y_a y.y_b) s) refusal_shown en
-        ∙ shown_ends s r (shown o).refusal o (record { y_a = 0; y_b = 0 }) refl
+        ∙ ap (λ (k : ℕ). answer k 0 (collected_triple s r y y') s) eq
+        ∙ ap₂ (λ (x x' : ℕ). answer (shown o).refusal 0 (collected_triple s r x x') s) ey ey'
         ∙ ap (λ (k : OpenedMasks). answer k.refusal 0 (collected_triple s r k.y_a k.y_b) s) e
         ∙ found_answer s r (collect_refusal s rows r l l') y_a_of y_b_of

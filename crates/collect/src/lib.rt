@@ -27,6 +27,14 @@ pub struct Numbers {
     pub y_b: u32,
 }
 
+// What an answer shows of them: the refusal, or none, and the numbers, 0 beside a refusal.
+#[derive(Clone, Copy)]
+struct Told {
+    checked: Result<(), Refusal>,
+    y_a: u32,
+    y_b: u32,
+}
+
 // 5 of the two records, and 6.
 #[tactic(auto, using(session::proofs::Calls::same_valid))]
 fn collect_place(
@@ -170,7 +178,21 @@ fn open_masks(
     open_both(session, rows, first, record_a, record_b)
 }
 
-#[tactic(auto, using(crate::proofs::Opens::collect_allows, crate::proofs::Opens::collect_ended))]
+// The same for the answer: what the checks and openings found, and the numbers, 0 where they refuse. A function of its own: where the compiler
+// knows at which end of `open_masks` a result was made, it writes the answer once for each, and copies the session between them.
+#[inline(never)]
+#[tactic(auto, using(crate::proofs::Opens::shown_refusal, crate::proofs::Opens::shown_a, crate::proofs::Opens::shown_b))]
+fn tell(opened: Result<Numbers, Refusal>) -> Told
+    ensures { (refused result.checked ≡ (shown opened).refusal) × (result.y_a ≡ (shown opened).y_a) × (result.y_b ≡ (shown opened).y_b) }
+{
+    let numbers = opened.unwrap_or(Numbers { y_a: 0, y_b: 0 });
+    Told {
+        checked: opened.and(Ok(())),
+        y_a: numbers.y_a,
+        y_b: numbers.y_b,
+    }
+}
+
 pub fn collect(
     session: Session,
     rows: &[u32],
@@ -180,7 +202,6 @@ pub fn collect(
 ) -> Answer
     ensures { result ≡ collect_answer session rows.now first record_a.now record_b.now }
 {
-    let opened = open_masks(session, rows, first, record_a, record_b);
-    let numbers = opened.unwrap_or(Numbers { y_a: 0, y_b: 0 });
-    session.answer_collecting(opened.and(Ok(())), first, numbers.y_a, numbers.y_b)
+    let told = tell(open_masks(session, rows, first, record_a, record_b));
+    session.answer_collecting(told.checked, first, told.y_a, told.y_b)
 }
