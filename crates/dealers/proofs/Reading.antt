@@ -5,7 +5,7 @@ use mathlib.Core.Bool.{Bool, true, false, cond}
 use mathlib.Core.List.{List, [], ◌∷◌}
 use native.Mathlib.Nat.{sub-zero}
 use native.Mathlib.Omega.{arith}
-use borrow.Author.Tests.{lt-ltb, le-ltb, eq-eqb, ne_eqb}
+use borrow.Author.Tests.{lt-ltb, eq-eqb, ne_eqb}
 use lib.ListN.{length, get_or}
 use Rattle.refusal.specs.Refusal.{first, outcome}
 use Rattle.refusal.specs.Conditions.{beyond}
@@ -19,19 +19,12 @@ use Rattle.forms.proofs.Scanning.{scan_no_row, scan_deal}
 use Rattle.lines.specs.declared.Line.{Line}
 use Rattle.lines.specs.Reading.{no_line_of, limit_of_of, line_as, list_as}
 use Rattle.lines.proofs.Answers.{broken_line, beyond_line, taken_line, taken_list}
-use Rattle.dealers.specs.declared.Said.{Said}
 use Rattle.dealers.specs.Calls.{taken_refusal, said_row, said_number}
-use Rattle.dealers.specs.Between.{said_by_of}
+use Rattle.dealers.specs.Between.{Heard, said_by_of}
 
 -- ---- what the number stays below
 
 module _ (row limit : ℕ) where
-  pub misplaced : limit ≡ 0 → 95 < row → limit ≡ limit_of_of (out_of_range_of 2 68 row 0 (beyond 0))
-  misplaced q h = q ∙ rw (lt-ltb 95 row h)
-
-  pub in_place : limit ≡ 2147483647 → row ≤ 95 → limit ≡ limit_of_of (out_of_range_of 2 68 row 0 (beyond 0))
-  in_place q h = q ∙ rw (le-ltb 95 row h)
-
   pub limit_fits : limit ≡ limit_of_of (out_of_range_of 2 68 row 0 (beyond 0)) → limit ≤ 4294967296
   limit_fits q = go (out_of_range_of 2 68 row 0 (beyond 0)) q
     where
@@ -41,16 +34,19 @@ module _ (row limit : ℕ) where
 
 -- ---- no `D`, and the row
 
-module _ (line : List ℕ) where
-  pub not_deal : (m : Said) → m ≡ record { refusal = 10; row = 0; c = 0 } → (get_or line 0 0 ≡ 68 → ⊥) → m ≡ said_by_of line
-  unfolding taken_refusal outcome
-  not_deal m q n = q ∙ rw (ne_eqb (get_or line 0 0) 68 n)
+abbrev nothing : ℕ → Heard
+nothing k = record { refusal = k; row = 0; c = 0 }
 
-  pub no_line : (m : Said) → m ≡ record { refusal = 10; row = 0; c = 0 } → length line < 1 → m ≡ said_by_of line
+module _ (line : List ℕ) where
+  pub not_deal : (get_or line 0 0 ≡ 68 → ⊥) → nothing 10 ≡ said_by_of line
   unfolding taken_refusal outcome
-  no_line m q h = q ∙ none line h
+  not_deal n = rw (ne_eqb (get_or line 0 0) 68 n)
+
+  pub no_line : length line < 1 → nothing 10 ≡ said_by_of line
+  unfolding taken_refusal outcome
+  no_line h = none line h
     where
-      none : (l : List ℕ) → length l < 1 → record { refusal = 10; row = 0; c = 0 } ≡ said_by_of l
+      none : (l : List ℕ) → length l < 1 → nothing 10 ≡ said_by_of l
       none [] h = refl
       none (x ∷ l) h = absurd (omega arith)
 
@@ -64,7 +60,7 @@ module _ (line : List ℕ) where
     said_as k e =
         sym (ap (λ (x : ℕ). outcome x (record { refusal = 0; row = said_row line; c = said_number line }) (record { refusal = x; row = 0; c = 0 })) (taken_is ∙ e))
 
-    said_none : (k : ℕ) → first (line_tests 2 2 line) ≡ suc k → record { refusal = suc k; row = 0; c = 0 } ≡ said_by_of line
+    said_none : (k : ℕ) → first (line_tests 2 2 line) ≡ suc k → nothing (suc k) ≡ said_by_of line
     unfolding outcome
     said_none k e = said_as (suc k) e
 
@@ -72,10 +68,10 @@ module _ (line : List ℕ) where
       one_number : 1 ≡ cond (is_letter (get_or line 0 0)) (number_count_of 2 (get_or line 0 0)) 0
       one_number = rw d
 
-      pub no_row : (m : Said) → m ≡ record { refusal = 10; row = 0; c = 0 } → r ≡ None → m ≡ said_by_of line
-      no_row m q w =
+      pub no_row : r ≡ None → nothing 10 ≡ said_by_of line
+      no_row w =
           let f : form_of 2 line ≡ malformed = scan_no_row 2 line (omega arith) 1 one_number (omega arith) (sym w ∙ e) in
-          q ∙ said_none 9 (rw f)
+          said_none 9 (rw f)
 
       pub row_read : (row next : ℕ) → r ≡ run row next → Headed 2 line 68 row 0 next 1
       row_read row next w =
@@ -101,16 +97,16 @@ module _ (line : List ℕ) (row at : ℕ) (h : Headed 2 line 68 row 0 at 1) (out
   is_deal : get_or line 0 0 ≡ 68
   is_deal = sym h.letter_is
 
-  pub number_broken : (m : Said) → m ≡ record { refusal = 10; row = 0; c = 0 } → r ≡ None → m ≡ said_by_of line
-  number_broken m q u =
+  pub number_broken : r ≡ None → nothing 10 ≡ said_by_of line
+  number_broken u =
       let e = broken_line 2 2 line out 68 row 0 at 1 h r d u (no_line_of 10) refl in
-      q ∙ said_none line is_deal 9 (sym (line_refusal_lem (no_line_of 10) _ (message 2 line) e))
+      said_none line is_deal 9 (sym (line_refusal_lem (no_line_of 10) _ (message 2 line) e))
 
   module _ (largest next : ℕ) (u : r ≡ run largest next) (limit : ℕ) (l : limit ≡ limit_of_of (out_of_range_of 2 68 row 0 (beyond 0))) where
-    pub number_beyond : (m : Said) → m ≡ record { refusal = 11; row = 0; c = 0 } → limit ≤ largest → m ≡ said_by_of line
-    number_beyond m q w =
+    pub number_beyond : limit ≤ largest → nothing 11 ≡ said_by_of line
+    number_beyond w =
         let e = beyond_line 2 2 line out 68 row 0 at 1 h r d largest next u (out_of_range_of 2 68 row 0 (beyond 0)) refl limit l w (no_line_of 11) refl in
-        q ∙ said_none line is_deal 10 (sym (line_refusal_lem (no_line_of 11) _ (message 2 line) e))
+        said_none line is_deal 10 (sym (line_refusal_lem (no_line_of 11) _ (message 2 line) e))
 
     pub number_read : largest < limit → (numbers : List ℕ) → numbers ≡ cond (below_limit r limit) (numbers_of_of (fields_at 1 line at)) out
         → record { refusal = 0; row = row; c = get_or numbers 0 0 } ≡ said_by_of line
