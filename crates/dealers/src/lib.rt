@@ -195,8 +195,9 @@ pub fn turn(session: Session, rows: &mut [u32], state: &mut [u8]) -> Answer
     ensures rows_after { rows.new ≡ turn_rows session rows.old state.old }
     ensures state_after { state.new ≡ turn_state session rows.old state.old }
 {
-    let checked = session.frame(rows).and(places::checks(state));
+    // The marks are copied first: behind the checks more of the session would be copied with them.
     let marks = session.marks;
+    let checked = session.frame(rows).and(places::checks(state));
     let dealt = take_turn(session.shape(), &marks, rows, state, checked);
     answer_turn(session, dealt)
 }
