@@ -2,13 +2,13 @@
 use Prim.Native.Nat.{ℕ, zero, suc, ◌+◌, ◌-◌, ◌≤◌, ◌<◌}
 use mathlib.Core.Path.{◌≡◌, refl, sym, ◌∙◌, ap, ap₂}
 use mathlib.Core.Bool.{Bool, true, false, not, cond, ◌&&◌}
-use mathlib.Core.List.{List}
+use mathlib.Core.List.{List, ◌++◌}
 use native.Mathlib.Decide.{dec_le}
 use native.Mathlib.Numerals.{add-one}
 use native.Mathlib.Omega.{arith}
 use lib.Dec.{eqb}
-use lib.ListN.{length, get_or, set, length-set}
-use lib.Seq.{get_or-set_same, get_or-set_other}
+use lib.ListN.{length, get_or, set, take, length-set, length-append, get_or-append}
+use lib.Seq.{get_or-set_same, get_or-set_other, get_or-take, length-take-le}
 use Rattle.shape.specs.declared.Shape.{Shape}
 use Rattle.shape.specs.declared.Points.{Points}
 use Rattle.shape.specs.Lengths.{Valid}
@@ -63,14 +63,15 @@ module _ (q : Party) (row blocks : List ℕ) (h : ℕ) where
     pub share_is : (j : ℕ) → 1 ≤ j → j ≤ i → unmarked (get_or marks (j - 1) 0) ≡ true → get_or marks (j - 1) 0 ≡ share q row blocks j
     pub left : (j : ℕ) → i < j → j ≤ n → unmarked (get_or marks (j - 1) 0) ≡ every_below h (passes_at q row blocks j)
 
-  pub marking_start : (marks : List ℕ) → MarkedTo q row blocks h marks → Marking 0 marks
-  marking_start marks m = record {
+  -- the marks of the posts, lent from a list with room behind them
+  pub marking_start : (marks : List ℕ) (k : ℕ) → k ≡ n → MarkedTo q row blocks h marks → Marking 0 (take k marks)
+  marking_start marks k e m = rw e (record {
     within = omega arith;
-    long = m.long;
+    long = omega (arith, length-take-le n marks m.long);
     done = λ j lo hi. absurd (omega (arith, lo, hi));
     share_is = λ j lo hi is. absurd (omega (arith, lo, hi));
-    left = λ j lo hi. m.each j (omega (arith, lo)) hi;
-  }
+    left = λ j lo hi. ap unmarked (get_or-take n marks (j - 1) 0 (omega (arith, lo, hi))) ∙ m.each j (omega (arith, lo)) hi;
+  })
 
   pub marking_in : (i : ℕ) (marks : List ℕ) → Marking i marks → i < n → i < length marks
   marking_in i marks m low = omega (arith, m.long)
@@ -119,12 +120,17 @@ module _ (q : Party) (row blocks : List ℕ) (h : ℕ) where
           let same : get_or (set marks i r) (j - 1) 0 ≡ r = ap (λ (k : ℕ). get_or (set marks i r) k 0) place ∙ here in
           same ∙ e.share_is (sym (ap unmarked same) ∙ is) ∙ ap (share q row blocks) (sym last)
 
-  pub marking_end : (i : ℕ) (marks : List ℕ) → Marking i marks → n ≤ i → MarkedTo q row blocks (h + 1) marks
-  marking_end i marks m high = record {
-    long = m.long;
-    each = λ j lo hi. m.done j lo (omega (arith, hi, high)) ∙ ap (λ (k : ℕ). every_below k (passes_at q row blocks j)) (sym (add-one h));
-    share_is = λ j lo hi some is. m.share_is j lo (omega (arith, hi, high)) is;
+  pub marking_end : (i : ℕ) (marks rest : List ℕ) → Marking i marks → n ≤ i → MarkedTo q row blocks (h + 1) (marks ++ rest)
+  marking_end i marks rest m high = record {
+    long = omega (arith, length-append marks rest, m.long);
+    each = λ j lo hi.
+        ap unmarked (same j lo hi) ∙ m.done j lo (omega (arith, hi, high))
+        ∙ ap (λ (k : ℕ). every_below k (passes_at q row blocks j)) (sym (add-one h));
+    share_is = λ j lo hi some is. same j lo hi ∙ m.share_is j lo (omega (arith, hi, high)) (sym (ap unmarked (same j lo hi)) ∙ is);
   }
+    where
+      same : (j : ℕ) → 1 ≤ j → j ≤ n → get_or (marks ++ rest) (j - 1) 0 ≡ get_or marks (j - 1) 0
+      same j lo hi = get_or-append marks rest 0 (j - 1) (omega (arith, m.long, lo, hi))
 
 module _ (q : Party) (row blocks marks : List ℕ) where
   pub marked_none : Unmarked q.shape marks → MarkedTo q row blocks 0 marks

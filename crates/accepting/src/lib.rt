@@ -6,17 +6,18 @@ ghost use Rattle.field.specs.Arithmetic.{difference};
 ghost use Rattle.poly.specs.Polynomial.{value};
 ghost use Rattle.shape.specs.Lengths.{Valid, v_length, row_length};
 ghost use Rattle.shape.specs.Row.{point_at, public_sum_of};
-ghost use Rattle.blocks.specs.Between.{PostIn, Openable};
+ghost use Rattle.blocks.specs.Between.{PostIn};
 ghost use Rattle.accepting.specs.Accepting.{accepts, share};
 ghost use Rattle.accepting.specs.Between.{PowersAt, MarkedAs, MarkedTo, Judged, Unmarked};
 
-use session::Party;
-use shape::Shape;
+use blocks::Opening;
+use shape::{Points, Shape};
 
 // A polynomial of so few coefficients is valued by Horner's rule: the powers of the check point would take longer than they save.
 const FEW_COEFFICIENTS: usize = 4;
 
 // The powers of a check point where polynomials are longer, else what the list has.
+#[tactic(auto, using(crate::proofs::Weights::filled, crate::proofs::Weights::not_asked))]
 fn fill_weights(shape: Shape, w: u32, list: &mut [u32])
     requires { length list.old ≡ v_length shape }
     ensures { PowersAt shape w list.new }
@@ -27,6 +28,7 @@ fn fill_weights(shape: Shape, w: u32, list: &mut [u32])
 }
 
 // A polynomial's value at a check point.
+#[tactic(auto, using(crate::proofs::Weights::weights_enough, crate::proofs::Weights::weights_elements, crate::proofs::Weights::weighed_value))]
 fn checked_value(shape: Shape, w: u32, part: &[u32], weights: &[u32]) -> u32
     requires { Valid shape × (length part.now ≤ v_length shape) × PowersAt shape w weights.now }
     ensures { result ≡ value part.now w }
@@ -47,29 +49,29 @@ fn share_of(shape: Shape, row: &[u32], part: &[u32], j: usize) -> u32
     field::sub(row[at], part[0])
 }
 
+// A post's h-th check point.
+fn point(points: Points, h: usize) -> u32
+    ensures { result ≡ point_at points h }
+{
+    if h == 0 { points.first } else { points.second }
+}
+
 // Post j's mark: its share while its polynomial has the right value at the h-th check point w too, and at those before it; else p, which no share is.
-fn mark_of<'a>(
-    party: Party,
-    h: usize,
-    w: u32,
-    row: &'a [u32],
-    blocks: &'a [u32],
-    j: usize,
-    weights: &[u32],
-    mark: u32,
-) -> u32
-    requires { Openable party row.now blocks.now × PostIn party.shape j × (h < party.shape.points) × (w ≡ point_at party.points h)
-        × PowersAt party.shape w weights.now }
-    ensures { MarkedAs party row.now blocks.now j h mark result }
+#[tactic(auto, using(crate::proofs::Parts::mark_kept, crate::proofs::Parts::mark_absent, crate::proofs::Parts::mark_right, crate::proofs::Parts::mark_wrong, crate::proofs::Parts::part_short, crate::proofs::Parts::part_there))]
+fn mark_of(opening: Opening, h: usize, w: u32, j: usize, weights: &[u32], mark: u32) -> u32
+    requires { PostIn opening.party.shape j × (h < opening.party.shape.points) × (w ≡ point_at opening.party.points h)
+        × PowersAt opening.party.shape w weights.now }
+    ensures { MarkedAs opening.entry.party opening.entry.row.now opening.entry.blocks.now j h mark result }
 {
     if mark == field::P {
         return mark;
     }
-    let part = blocks::sent(party, row, blocks, j);
+    let part = opening.sent(j);
     if part.len() == 0 {
         return field::P;
     }
-    let shape = party.shape;
+    let shape = opening.party.shape;
+    let row = opening.row;
     let at = shape.checks_at() + (j - 1) * shape.points + h;
     if checked_value(shape, w, part, weights) == row[at] {
         return share_of(shape, row, part, j);
@@ -78,82 +80,60 @@ fn mark_of<'a>(
 }
 
 // All posts' marks, by the h-th check point w.
-fn mark_all<'a>(
-    party: Party,
-    h: usize,
-    w: u32,
-    row: &'a [u32],
-    blocks: &'a [u32],
-    weights: &[u32],
-    marks: &mut [u32],
-)
-    requires { Openable party row.now blocks.now × (h < party.shape.points) × (w ≡ point_at party.points h)
-        × PowersAt party.shape w weights.now × MarkedTo party row.now blocks.now h marks.old }
-    ensures { MarkedTo party row.now blocks.now (h + 1) marks.new }
+#[tactic(auto, using(crate::proofs::Marks::marking_start, crate::proofs::Marks::marking_in, crate::proofs::Marks::marking_more, crate::proofs::Marks::marking_end, crate::proofs::Marks::next_post))]
+fn mark_all(opening: Opening, h: usize, w: u32, weights: &[u32], marks: &mut [u32])
+    requires { (h < opening.party.shape.points) × (w ≡ point_at opening.party.points h)
+        × PowersAt opening.party.shape w weights.now × MarkedTo opening.party opening.row.now opening.blocks.now h marks.old }
+    ensures { MarkedTo opening.entry.party opening.entry.row.now opening.entry.blocks.now (h + 1) marks.new }
 {
-    let shape = party.shape;
-    let n = shape.n;
-    for i in 0..n {
-        let mark = mark_of(party, h, w, row, blocks, i + 1, weights, marks[i]);
-        marks[i] = mark;
+    let n = opening.party.shape.n;
+    for (i, mark) in marks[..n].iter_mut().enumerate() {
+        *mark = mark_of(opening, h, w, i + 1, weights, *mark);
     }
 }
 
-fn judge_at<'a>(
-    party: Party,
-    h: usize,
-    w: u32,
-    row: &'a [u32],
-    blocks: &'a [u32],
-    weights: &mut [u32],
-    marks: &mut [u32],
-)
-    requires { Openable party row.now blocks.now × (h < party.shape.points) × (w ≡ point_at party.points h)
-        × (v_length party.shape ≤ length weights.old) × MarkedTo party row.now blocks.now h marks.old }
-    ensures { MarkedTo party row.now blocks.now (h + 1) marks.new }
+#[tactic(auto, using(crate::proofs::Weights::front_lent, crate::proofs::Weights::front_long, crate::proofs::Weights::front_in, crate::proofs::Weights::front_again, crate::proofs::Weights::front_powers))]
+fn judge_at(opening: Opening, h: usize, weights: &mut [u32], marks: &mut [u32])
+    requires { (h < opening.party.shape.points) × (v_length opening.party.shape ≤ length weights.old)
+        × MarkedTo opening.party opening.row.now opening.blocks.now h marks.old }
+    ensures { MarkedTo opening.entry.party opening.entry.row.now opening.entry.blocks.now (h + 1) marks.new }
 {
-    let shape = party.shape;
+    let shape = opening.party.shape;
+    let w = point(opening.party.points, h);
     let count = shape.v_len();
-    fill_weights(shape, w, &mut weights[..count]);
-    mark_all(party, h, w, row, blocks, &weights[..count], marks);
+    let powers = &mut weights[..count];
+    fill_weights(shape, w, powers);
+    mark_all(opening, h, w, powers, marks);
 }
 
 // Marks the posts: those that the party accepts with their shares. They are judged before both walks, a point after the other, so that one loop with a small body
 // does it: the compiler splits it by the polynomials' length.
-pub fn judge<'a>(
-    party: Party,
-    row: &'a [u32],
-    blocks: &'a [u32],
-    weights: &mut [u32],
-    marks: &mut [u32],
-)
-    requires { Openable party row.now blocks.now × (v_length party.shape ≤ length weights.old) × Unmarked party.shape marks.old }
-    ensures { Judged party row.now blocks.now marks.new }
+#[tactic(auto, using(crate::proofs::Marks::marked_none, crate::proofs::Marks::marked_all))]
+pub fn judge(opening: Opening, weights: &mut [u32], marks: &mut [u32])
+    requires { (v_length opening.party.shape ≤ length weights.old) × Unmarked opening.party.shape marks.old }
+    ensures { Judged opening.entry.party opening.entry.row.now opening.entry.blocks.now marks.new }
 {
-    let shape = party.shape;
-    let points = party.points;
-    let mut w = points.first;
-    let mut h = 0;
-    while h < shape.points {
-        judge_at(party, h, w, row, blocks, weights, marks);
-        w = points.second;
-        h += 1;
+    for h in 0..opening.party.shape.points {
+        judge_at(opening, h, weights, marks);
     }
 }
 
 // Post j is accepted, by the marks that `judge` left.
-pub fn accepts<'a>(party: Party, row: &'a [u32], blocks: &'a [u32], j: usize, marks: &[u32]) -> bool
-    requires { PostIn party.shape j × Judged party row.now blocks.now marks.now }
-    ensures { result ≡ accepts party row.now blocks.now j }
+#[tactic(auto, using(crate::proofs::Marks::judged_in, crate::proofs::Marks::judged_is))]
+pub fn accepts(opening: Opening, j: usize, marks: &[u32]) -> bool
+    requires { PostIn opening.party.shape j × Judged opening.party opening.row.now opening.blocks.now marks.now }
+    ensures { result ≡ accepts opening.entry.party opening.entry.row.now opening.entry.blocks.now j }
 {
     let i = j - 1;
     marks[i] != field::P
 }
 
 // And its share is its mark.
-pub fn share<'a>(party: Party, row: &'a [u32], blocks: &'a [u32], j: usize, marks: &[u32]) -> u32
-    requires { PostIn party.shape j × Judged party row.now blocks.now marks.now × (accepts party row.now blocks.now j ≡ true) }
-    ensures { result ≡ share party row.now blocks.now j }
+#[tactic(auto, using(crate::proofs::Marks::judged_in, crate::proofs::Marks::judged_share))]
+pub fn share(opening: Opening, j: usize, marks: &[u32]) -> u32
+    requires { PostIn opening.party.shape j × Judged opening.party opening.row.now opening.blocks.now marks.now
+        × (accepts opening.party opening.row.now opening.blocks.now j ≡ true) }
+    ensures { result ≡ share opening.entry.party opening.entry.row.now opening.entry.blocks.now j }
 {
     let i = j - 1;
     marks[i]

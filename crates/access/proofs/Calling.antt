@@ -1,23 +1,23 @@
 -- The call of an A line, from what the line says.
-use Prim.Native.Nat.{ℕ, zero, suc, ◌≤◌, ◌<◌}
-use mathlib.Core.Path.{◌≡◌, refl, sym, ◌∙◌, ap, ap₂}
+use Prim.Native.Nat.{ℕ, zero, suc, ◌<◌}
+use mathlib.Core.Path.{◌≡◌, refl, sym, ◌∙◌, ap}
 use mathlib.Core.Bool.{Bool, true, false, not, ◌||◌}
-use mathlib.Core.List.{List, [], ◌∷◌, ◌++◌}
+use mathlib.Core.List.{List, [], ◌∷◌}
 use native.Mathlib.Omega.{arith}
 use lib.Dec.{ltb}
 use lib.ListN.{length}
-use borrow.Author.Tests.{ltb-true, ltb-false}
+use borrow.Author.Tests.{ltb-false}
 use Rattle.shape.specs.Marks.{raw}
 use Rattle.refusal.specs.Refusal.{Test, ◌when◌, first, or_else, outcome}
 use Rattle.refusal.proofs.Groups.{stopped, went_on}
 use Rattle.refusal.proofs.Endings.{refused, accepted}
 use Rattle.session.specs.declared.Session.{Session}
-use Rattle.session.specs.Sessions.{points_of, session_tests, with_barred, holding, answer}
+use Rattle.session.specs.Sessions.{with_barred, holding, answer}
 use Rattle.session.specs.Checks.{no_row, wrong_mark_of}
 use Rattle.session.specs.Between.{Allows}
 use Rattle.csv_fields.specs.Fields.{Parsed, parsed, malformed}
 use Rattle.access.specs.declared.Read.{Read}
-use Rattle.access.specs.Access.{access_fields, access_row, access_posts, bad_access, rising, any_outside, every_post, admitted_all, placed, access_tests, access_refusal, access_answer}
+use Rattle.access.specs.Access.{access_fields, access_row, access_posts, bad_access, rising, any_outside, every_post, admitted_all, placed, access_refusal, access_answer}
 use Rattle.access.specs.Between.{told, read_of, settings_of}
 use Rattle.access.proofs.Listed.{length_placed}
 
@@ -122,9 +122,6 @@ module _ (s : Session) (line : List ℕ) where
             go (suc k) j q e = absurd (omega arith)
             go zero zero q e = q
             go zero (suc j) q e = absurd (omega arith)
-
-        pub access_room : Allows r (d.row < 96)
-        access_room = record { allowed = λ z. row_96 (line_zero z) }
 
         pub access_done : (b : List ℕ) → b ≡ outcome r (placed 8 s.barred d.row d.words) s.barred
             → holding r 0 (with_barred s b) ≡ access_answer s line

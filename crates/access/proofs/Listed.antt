@@ -1,6 +1,6 @@
 -- What set an A line leaves: of its row the posts that are not listed are barred, bit by bit.
 use Prim.Native.Nat.{ℕ, zero, suc, ◌+◌, ◌*◌, ◌-◌, ◌/◌, ◌%◌, ◌^◌, ◌≤◌, ◌<◌, min}
-use mathlib.Core.Path.{◌≡◌, refl, sym, ◌∙◌, ap, ap₂, subst}
+use mathlib.Core.Path.{◌≡◌, refl, sym, ◌∙◌, ap, ap₂}
 use mathlib.Core.Logic.{◌≢◌}
 use mathlib.Core.Bool.{Bool, true, false, not, ◌||◌, ◌&&◌, cond}
 use mathlib.Core.List.{List, [], ◌∷◌}
@@ -8,12 +8,12 @@ use native.Mathlib.Decide.{ℕ_discrete}
 use native.Mathlib.Omega.{arith}
 use borrow.Author.Tests.{le-ltb, eq-eqb, ne_eqb}
 use lib.Bits.{bit_and, and_step, and_shr}
-use lib.Dec.{eqb, ltb}
+use lib.Dec.{eqb}
 use lib.ListN.{length, get_or, set, length-set, length-replicate, get_or-replicate}
 use lib.Seq.{get_or-set_same, get_or-set_other}
 use Rattle.refusal.specs.Conditions.{outside}
 use Rattle.refusal.proofs.Laws.{inside}
-use Rattle.callers.specs.Sets.{bit_at, bars}
+use Rattle.callers.specs.Sets.{bit_at}
 use Rattle.access.specs.Access.{access_fields, access_row, access_posts, access_sets, every_post, admitted, admitted_all, placed}
 use Rattle.access.specs.Claims.{listed, SetListed}
 

@@ -1,13 +1,13 @@
 -- The longest A line: no line that is taken has more bytes than the one that names the last row and all posts.
 use Prim.Native.Nat.{ℕ, zero, suc, ◌+◌, ◌*◌, ◌-◌, ◌≤◌, ◌<◌}
 use mathlib.Core.Path.{◌≡◌, refl, sym, ◌∙◌, ap, ap₂}
-use mathlib.Core.Bool.{Bool, true, false, not, ◌||◌, ◌&&◌, cond}
-use mathlib.Core.List.{List, [], ◌∷◌, ◌++◌}
+use mathlib.Core.Bool.{Bool, true, false, not, ◌||◌, cond}
+use mathlib.Core.List.{List, [], ◌∷◌}
 use native.Mathlib.Omega.{arith}
 use borrow.Author.Tests.{lt-ltb, le-ltb, ltb-true, ltb-false}
 use lib.Dec.{ltb}
-use lib.ListN.{length, get_or, length-append}
-use Rattle.refusal.specs.Refusal.{Test, ◌when◌, first, AllFail}
+use lib.ListN.{length, length-append}
+use Rattle.refusal.specs.Refusal.{first, AllFail}
 use Rattle.refusal.specs.Conditions.{outside}
 use Rattle.refusal.proofs.Laws.{all_fail, not_refused, inside, or_false}
 use Rattle.decimal.specs.Numeral.{size_within, size}
@@ -20,7 +20,6 @@ use Rattle.session.specs.Checks.{wrong_mark_of}
 use Rattle.access.specs.Access.{access_fields, access_row, access_posts, bad_access, rising_from, rising, any_outside}
 use Rattle.access.specs.Table.{access_table}
 use Rattle.access.specs.Claims.{line_end_of, access_text, all_from, all_admitted, longest_access, LongestAccess}
-use Rattle.access.proofs.Rising.{posts_mean}
 use Rattle.access.proofs.Bytes.{access_bytes}
 
 -- ---- bytes of posts

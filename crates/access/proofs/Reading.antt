@@ -1,6 +1,6 @@
 -- What a line says, from the walk over its posts.
 use Prim.Native.Nat.{ℕ, zero, suc, ◌+◌, ◌-◌, ◌≤◌, ◌<◌}
-use mathlib.Core.Path.{◌≡◌, refl, sym, ◌∙◌, ap, ap₂, subst}
+use mathlib.Core.Path.{◌≡◌, refl, sym, ◌∙◌, ap, subst}
 use mathlib.Core.Bool.{Bool, true, false, not, ◌||◌, ◌&&◌, cond}
 use mathlib.Core.List.{List, [], ◌∷◌}
 use native.Mathlib.Omega.{arith}
@@ -10,13 +10,13 @@ use borrow.Author.Tests.{lt-ltb, le-ltb, eq-eqb, ne_eqb}
 use Rattle.refusal.specs.Refusal.{outcome}
 use Rattle.refusal.specs.Conditions.{outside}
 use Rattle.csv_fields.specs.declared.Run.{Run}
-use Rattle.csv_fields.specs.declared.Run.TheVariants.{Fields, Broken}
-use Rattle.csv_fields.specs.Fields.{Parsed, parsed, malformed, push, fields_at, ended, run_of}
+use Rattle.std.specs.Prelude.{Option, Some, None}
+use Rattle.csv_fields.specs.Fields.{Parsed, parsed, malformed, push, fields_at, ended, run, run_of}
 use Rattle.csv_fields.specs.Walk.{end_of}
 use Rattle.csv_fields.proofs.Single.{first_found, first_broken}
 use Rattle.access.specs.declared.Posts.{Posts}
 use Rattle.access.specs.declared.Read.{Read}
-use Rattle.access.specs.Access.{commas, alone, several_at, posts_at, behind_row, access_fields, rising_from, rising, any_outside, every_post, admitted, admitted_all}
+use Rattle.access.specs.Access.{commas, alone, several_at, posts_at, behind_row, access_fields, rising_from, rising, any_outside, every_post, admitted_all}
 use Rattle.access.specs.Between.{further, walked, start, unread, beyond, told, ended_of, read_of}
 
 -- ---- the empty set
@@ -101,21 +101,21 @@ Follows n p (parsed cs next) q =
     × (q.words ≡ admitted_all p.words cs)
 
 module _ (n : ℕ) (s : List ℕ) where
-  stays : (p : Posts) (r : Run) → p.rising ≡ false → (further n p r).rising ≡ false
-  stays p (Fields x next) e = rw e
-  stays p Broken e = refl
+  stays : (p : Posts) (r : Option Run) → p.rising ≡ false → (further n p r).rising ≡ false
+  stays p (Some r) e = rw e
+  stays p None e = refl
 
   stays_all : (k : ℕ) (p : Posts) → p.rising ≡ false → (walked k n s p).rising ≡ false
   unfolding walked
   stays_all zero p e = e
   stays_all (suc k) p e = stays_all k (further n p (run_of (fields_at 1 s p.at))) (stays p (run_of (fields_at 1 s p.at)) e)
 
-  pushes : (p : Posts) (x next : ℕ) (o : Parsed) (q : Posts) → Follows n (further n p (Fields x next)) o q → Follows n p (push x o) q
-  pushes p x next malformed q f = f
-  pushes p x next (parsed cs end) q f = (
+  pushes : (p : Posts) (r : Run) (o : Parsed) (q : Posts) → Follows n (further n p (Some r)) o q → Follows n p (push r.largest o) q
+  pushes p r malformed q f = f
+  pushes p r (parsed cs end) q f = (
     f.0,
-    f.1 ∙ and_assoc p.rising (not p.begun || ltb p.low x) (risen_from true x cs),
-    f.2 ∙ or_assoc p.out (outside 1 n x) (any_outside n cs),
+    f.1 ∙ and_assoc p.rising (not p.begun || ltb p.low r.largest) (risen_from true r.largest cs),
+    f.2 ∙ or_assoc p.out (outside 1 n r.largest) (any_outside n cs),
     f.3,
   )
 
@@ -128,30 +128,30 @@ module _ (n : ℕ) (s : List ℕ) where
   follows zero p = follows_none p
   follows (suc k) p = go (run_of (fields_at 1 s p.at)) refl (λ q. follows k q)
     where
-      go : (r : Run) → r ≡ run_of (fields_at 1 s p.at) → ((q : Posts) → Follows n q (fields_at k s q.at) (walked k n s q))
+      go : (r : Option Run) → r ≡ run_of (fields_at 1 s p.at) → ((q : Posts) → Follows n q (fields_at k s q.at) (walked k n s q))
           → Follows n p (fields_at (suc k) s p.at) (walked k n s (further n p r))
-      go (Fields x next) e rest =
-          subst (λ (o : Parsed). Follows n p o (walked k n s (further n p (Fields x next)))) (sym (first_found k s p.at (Fields x next) e x next refl))
-          (pushes p x next (fields_at k s next) _ (rest (further n p (Fields x next))))
-      go Broken e rest =
-          subst (λ (o : Parsed). Follows n p o (walked k n s (further n p Broken))) (sym (first_broken k s p.at Broken e refl))
-          (stays_all k (further n p Broken) refl)
+      go (Some r) e rest =
+          subst (λ (o : Parsed). Follows n p o (walked k n s (further n p (Some r)))) (sym (first_found k s p.at r e))
+          (pushes p r (fields_at k s r.next) _ (rest (further n p (Some r))))
+      go None e rest =
+          subst (λ (o : Parsed). Follows n p o (walked k n s (further n p None))) (sym (first_broken k s p.at e))
+          (stays_all k (further n p None) refl)
 
 -- ---- the line's end
-module _ (s : List ℕ) (row : ℕ) (p : Posts) (x : Read) (e : Run) (ee : e ≡ end_of s p.at 0) where
-  pub end_broken : e ≡ Broken → x ≡ unread → x ≡ ended_of s row p
+module _ (s : List ℕ) (row : ℕ) (p : Posts) where
+  pub end_broken : None ≡ end_of s p.at 0 → unread ≡ ended_of s row p
   unfolding ended_of
-  end_broken w q = q ∙ go (eqb (get_or s p.at 0) 10 && eqb (length s) (p.at + 1)) (sym ee ∙ w)
+  end_broken = go (eqb (get_or s p.at 0) 10 && eqb (length s) (p.at + 1))
     where
-      go : (t : Bool) → cond t (Fields 0 p.at) Broken ≡ Broken → unread ≡ cond t (told p.rising p.out row p.words) unread
+      go : (t : Bool) → None ≡ cond t (run 0 p.at) None → unread ≡ cond t (told p.rising p.out row p.words) unread
       go true z = let z' : ◌≡◌ {A = ℕ} 0 1 = cc in absurd (omega arith)
       go false z = refl
 
-  pub end_right : (largest next : ℕ) → e ≡ Fields largest next → x ≡ told p.rising p.out row p.words → x ≡ ended_of s row p
+  pub end_right : (r : Run) → Some r ≡ end_of s p.at 0 → told p.rising p.out row p.words ≡ ended_of s row p
   unfolding ended_of
-  end_right largest next w q = q ∙ go (eqb (get_or s p.at 0) 10 && eqb (length s) (p.at + 1)) (sym ee ∙ w)
+  end_right r = go (eqb (get_or s p.at 0) 10 && eqb (length s) (p.at + 1))
     where
-      go : (t : Bool) → cond t (Fields 0 p.at) Broken ≡ Fields largest next
+      go : (t : Bool) → Some r ≡ cond t (run 0 p.at) None
           → told p.rising p.out row p.words ≡ cond t (told p.rising p.out row p.words) unread
       go true z = refl
       go false z = let z' : ◌≡◌ {A = ℕ} 0 1 = cc in absurd (omega arith)
@@ -210,14 +210,14 @@ module _ (s : List ℕ) (n : ℕ) (x : Read) where
   pub line_letter : (get_or s 0 0 ≡ 65 → ⊥) → x ≡ unread → x ≡ read_of n (access_fields s)
   line_letter h q = q ∙ rw (ne_eqb (get_or s 0 0) 65 h)
 
-  module _ (h : get_or s 0 0 ≡ 65) (r : Run) (e : r ≡ run_of (fields_at 1 s 1)) where
-    pub line_broken : r ≡ Broken → x ≡ unread → x ≡ read_of n (access_fields s)
-    line_broken w q =
-        let k : fields_at 1 s 1 ≡ malformed = first_broken 0 s 1 r e w in
+  module _ (h : get_or s 0 0 ≡ 65) where
+    pub line_broken : None ≡ run_of (fields_at 1 s 1) → x ≡ unread → x ≡ read_of n (access_fields s)
+    line_broken e q =
+        let k : fields_at 1 s 1 ≡ malformed = first_broken 0 s 1 e in
         q ∙ rw (eq-eqb (get_or s 0 0) 65 h, k)
 
-    pub line_right : (row next : ℕ) → r ≡ Fields row next → x ≡ read_of n (push row (posts_at s next)) → x ≡ read_of n (access_fields s)
+    pub line_right : (r : Run) → Some r ≡ run_of (fields_at 1 s 1) → x ≡ read_of n (push r.largest (posts_at s r.next)) → x ≡ read_of n (access_fields s)
     unfolding fields_at
-    line_right row next w q =
-        let k : fields_at 1 s 1 ≡ parsed (row ∷ []) next = first_found 0 s 1 r e row next w in
+    line_right r e q =
+        let k : fields_at 1 s 1 ≡ parsed (r.largest ∷ []) r.next = first_found 0 s 1 r e in
         q ∙ ap (λ (o : Parsed). read_of n (behind_row s o)) (sym k) ∙ rw (eq-eqb (get_or s 0 0) 65 h)

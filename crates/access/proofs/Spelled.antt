@@ -10,7 +10,7 @@ use Rattle.refusal.specs.Refusal.{Test, ◌when◌, first, or_else}
 use Rattle.refusal.proofs.Laws.{first_join}
 use Rattle.csv_fields.specs.Fields.{Small, Parsed, parsed, malformed, numbers_of_of}
 use Rattle.session.specs.declared.Session.{Session}
-use Rattle.access.specs.Access.{access_fields, bad_access, access_row, access_posts, rising, any_outside, access_refusal}
+use Rattle.access.specs.Access.{access_fields, bad_access, access_row, access_posts, any_outside, access_refusal}
 use Rattle.access.specs.Claims.{access_text}
 use Rattle.access.specs.Spelled.{own_table, spelled_table, AccessSpelled}
 use Rattle.access.proofs.Tables.{access_table_lem}

@@ -1,16 +1,12 @@
 -- The A line keeps to demand 1.
-use Prim.Native.Nat.{ℕ, zero, suc}
-use mathlib.Core.Path.{◌≡◌, refl, sym, ◌∙◌, ap, subst}
+use mathlib.Core.Path.{◌≡◌, refl, sym, ◌∙◌, ap}
 use mathlib.Core.Bool.{true, false}
 use mathlib.Core.List.{List, [], ◌∷◌}
-use native.Mathlib.Omega.{arith}
-use Rattle.refusal.specs.Refusal.{Test, ◌when◌, first, Numbered}
+use Rattle.refusal.specs.Refusal.{Test, ◌when◌, first}
 use Rattle.refusal.proofs.Laws.{all_fail, not_refused}
-use Rattle.session.specs.declared.Session.{Session}
-use Rattle.session.specs.declared.Answer.{Answer}
 use Rattle.session.specs.Sessions.{with_barred, answer}
 use Rattle.session.proofs.Endings.{refused_answer, accepted_answer}
-use Rattle.access.specs.Access.{access_tests, access_refusal, access_sets, access_answer}
+use Rattle.access.specs.Access.{access_refusal, access_sets, access_answer}
 use Rattle.access.specs.Table.{access_table}
 use Rattle.access.specs.Claims.{FirstOf, here, later, AccessLawful}
 use Rattle.access.proofs.Tables.{access_table_lem}

@@ -1,29 +1,28 @@
 -- What the functions of the A line hand to one another.
-use Rattle.std.specs.Prelude.{ℕ, zero, suc, ◌+◌, ◌≡◌, Bool, true, false, not, ◌||◌, ◌&&◌, cond, List, [], ◌∷◌, eqb, ltb, length, get_or}
+use Rattle.std.specs.Prelude.{Option, Some, None, ℕ, zero, suc, ◌+◌, Bool, true, false, not, ◌||◌, ◌&&◌, cond, List, [], ◌∷◌, eqb, ltb, length, get_or}
 use Rattle.refusal.specs.Refusal.{Test, ◌when◌, first, outcome}
 use Rattle.refusal.specs.Conditions.{outside}
 use Rattle.session.specs.declared.Session.{Session}
 use Rattle.session.specs.Sessions.{points_of, session_tests}
 use Rattle.session.specs.Checks.{no_row}
 use Rattle.csv_fields.specs.declared.Run.{Run}
-use Rattle.csv_fields.specs.declared.Run.TheVariants.{Fields, Broken}
 use Rattle.csv_fields.specs.Fields.{Parsed, parsed, malformed, fields_at, run_of}
 use Rattle.access.specs.declared.Posts.{Posts}
 use Rattle.access.specs.declared.Read.{Read}
 use Rattle.access.specs.Access.{rising, any_outside, every_post, admitted, admitted_all}
 
 -- A walk over posts after one field more.
-abbrev pub further : ℕ → Posts → Run → Posts
-further n p (Fields x next) =
+abbrev pub further : ℕ → Posts → Option Run → Posts
+further n p (Some r) =
     record {
-      at = next;
+      at = r.next;
       begun = true;
-      low = x;
-      rising = p.rising && (not p.begun || ltb p.low x);
-      out = p.out || outside 1 n x;
-      words = admitted p.words x;
+      low = r.largest;
+      rising = p.rising && (not p.begun || ltb p.low r.largest);
+      out = p.out || outside 1 n r.largest;
+      words = admitted p.words r.largest;
     }
-further n p Broken =
+further n p None =
     record { at = p.at; begun = p.begun; low = p.low; rising = false; out = p.out; words = p.words }
 
 -- And after k of them.

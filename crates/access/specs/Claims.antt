@@ -2,7 +2,7 @@
 -- proofs/Listed.antt; and its bytes, in proofs/Bytes.antt.
 use Rattle.std.specs.Prelude.{ℕ, zero, suc, ◌+◌, ◌*◌, ◌-◌, ◌≤◌, ◌<◌, ◌≡◌, ◌≢◌, Bool, true, false, not, ◌||◌, List, [], ◌∷◌, ◌++◌, eqb, length, get_or}
 use Rattle.refusal.specs.Refusal.{Test, ◌when◌, first, AllFail}
-use Rattle.csv_fields.specs.Fields.{fields, Small, Parsed, parsed, numbers_of_of}
+use Rattle.csv_fields.specs.Fields.{fields, Small, parsed, numbers_of_of}
 use Rattle.callers.specs.Sets.{bars}
 use Rattle.session.specs.declared.Session.{Session}
 use Rattle.session.specs.Sessions.{with_barred}

@@ -1,6 +1,6 @@
 -- An A line in bytes, and which bits of which numbers it sets: figures that the definitions must meet.
-use Rattle.std.specs.Prelude.{ℕ, ◌≡◌, Bool, true, false, List, [], ◌∷◌, get_or, replicate}
-use Rattle.csv_fields.specs.Fields.{Parsed, parsed, malformed}
+use Rattle.std.specs.Prelude.{ℕ, ◌≡◌, true, false, List, [], ◌∷◌, get_or, replicate}
+use Rattle.csv_fields.specs.Fields.{parsed, malformed}
 use Rattle.access.specs.Access.{access_fields, rising, every_post, admitted_all, placed}
 
 pub record Lines : Type 0 where

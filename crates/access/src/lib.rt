@@ -1,7 +1,8 @@
 // Who may have a number opened: the A line, which sets the posts that may call for a raw row's opening.
 #![tactic(auto)]
 
-ghost use Rattle.refusal.specs.Refusal.{first, outcome};
+ghost use Rattle.refusal.specs.Refusal.{first, or_else, outcome};
+ghost use Rattle.refusal.specs.Numbers.{refused};
 ghost use Rattle.session.specs.Between.{Allows};
 ghost use Rattle.std.specs.Prelude.{◌≡◌, not, ◌||◌, cond, ◌<◌, length, eqb, ltb};
 ghost use Rattle.callers.specs.Sets.{sets_length};
@@ -11,8 +12,9 @@ ghost use Rattle.access.specs.Between.{further, walked, start, unread, beyond, t
 ghost use Rattle.csv_fields.specs.Fields.{push};
 
 use csv_fields::{Run, short};
+use refusal::Refusal;
 use session::{Answer, Session};
-use shape::Points;
+use shape::{Mark, Points};
 
 // A walk over the posts of a line: how far it has read, the post before, whether all were fields that rise, whether one is outside 1..n,
 // and the eight numbers of the set.
@@ -34,31 +36,19 @@ struct Read {
     words: [u32; 8],
 }
 
-fn comma(byte: u8) -> usize
-    ensures { result ≡ cond (eqb byte 44) 1 0 }
-{
-    if byte == 44 { 1 } else { 0 }
-}
-
 // How many commas a line has.
 fn commas(line: &[u8]) -> usize
     ensures { result ≡ commas line.now }
 {
-    let mut found: usize = 0;
-    for i in 0..line.len() {
-        found = found + comma(line[i]);
-    }
-    found
+    line.iter().filter(|byte| **byte == b',').count()
 }
 
 // A post is barred no longer.
+#[tactic(auto, using(crate::proofs::Walking::admit_low, crate::proofs::Walking::admit_high, crate::proofs::Walking::admit_bit, crate::proofs::Walking::admit_room, crate::proofs::Walking::admit_sub, crate::proofs::Walking::admit_end))]
 fn admit(mut words: [u32; 8], post: u64) -> [u32; 8]
     ensures { result ≡ admitted words post }
 {
-    if post < 1 {
-        return words;
-    }
-    if 256 < post {
+    if post < 1 || 256 < post {
         return words;
     }
     let at = ((post - 1) / 32) as usize;
@@ -70,28 +60,22 @@ fn admit(mut words: [u32; 8], post: u64) -> [u32; 8]
 fn outside(n: usize, post: u64) -> bool
     ensures { result ≡ outside 1 n post }
 {
-    if post < 1 {
-        return true;
-    }
-    (n as u64) < post
+    post < 1 || (n as u64) < post
 }
 
 // Whether a walk's next post is above the one before it, if there is one.
 fn rises(begun: bool, low: u64, post: u64) -> bool
     ensures { result ≡ (not begun || ltb low post) }
 {
-    if begun {
-        return low < post;
-    }
-    true
+    !begun || low < post
 }
 
 // One field more.
-fn further(n: usize, posts: Posts, run: Run) -> Posts
+fn further(n: usize, posts: Posts, run: Option<Run>) -> Posts
     ensures { result ≡ further n posts run }
 {
     match run {
-        Run::Fields { largest, next } => {
+        Some(Run { largest, next }) => {
             let risen = rises(posts.begun, posts.low, largest);
             let beyond = outside(n, largest);
             let before = posts.words;
@@ -105,7 +89,7 @@ fn further(n: usize, posts: Posts, run: Run) -> Posts
                 words,
             }
         }
-        Run::Broken => Posts {
+        None => Posts {
             rising: false,
             ..posts
         },
@@ -142,19 +126,11 @@ fn place(sets: &mut [u32], row: usize, words: [u32; 8])
 }
 
 // "`A,row,` alone": behind the row a comma and the line feed, and nothing more.
+#[tactic(auto, using(crate::proofs::Reading::alone_short, crate::proofs::Reading::alone_else, crate::proofs::Reading::alone_byte, crate::proofs::Reading::alone_is))]
 fn is_alone(line: &[u8], at: usize) -> bool
     ensures { result ≡ alone line.now at }
 {
-    if line.len() < 2 {
-        return false;
-    }
-    if line.len() - 2 != at {
-        return false;
-    }
-    if line[at] != 44 {
-        return false;
-    }
-    line[at + 1] == 10
+    2 <= line.len() && line.len() - 2 == at && line[at] == b',' && line[at + 1] == b'\n'
 }
 
 // 10.
@@ -169,23 +145,24 @@ fn unread() -> Read
 }
 
 // 10, 11 or none, where the form is right.
+#[tactic(auto, using(crate::proofs::Reading::told_unrisen, crate::proofs::Reading::told_row, crate::proofs::Reading::told_out, crate::proofs::Reading::told_right))]
 fn told(risen: bool, out: bool, row: u64, words: [u32; 8]) -> Read
     ensures { result ≡ told risen out row words }
 {
-    if risen {
-        if 95 < row {
-            return beyond();
-        }
-        if out {
-            return beyond();
-        }
-        return Read {
-            refusal: 0,
-            row: row as usize,
-            words,
-        };
+    if !risen {
+        return unread();
     }
-    unread()
+    if 95 < row {
+        return beyond();
+    }
+    if out {
+        return beyond();
+    }
+    Read {
+        refusal: 0,
+        row: row as usize,
+        words,
+    }
 }
 
 // 11.
@@ -200,19 +177,13 @@ fn beyond() -> Read
 }
 
 // What a walk says, if the line ends where it has come to.
+#[tactic(auto, using(crate::proofs::Reading::end_broken, crate::proofs::Reading::end_right))]
 fn end_posts(line: &[u8], row: u64, posts: Posts) -> Read
     ensures { result ≡ ended_of line.now row posts }
 {
-    let end = csv_fields::line_end(line, posts.at, 0);
-    match end {
-        Run::Fields {
-            largest: _,
-            next: _,
-        } => {
-            let words = posts.words;
-            told(posts.rising, posts.out, row, words)
-        }
-        Run::Broken => unread(),
+    match csv_fields::line_end(line, posts.at, 0) {
+        Some(_) => told(posts.rising, posts.out, row, posts.words),
+        None => unread(),
     }
 }
 
@@ -239,31 +210,36 @@ fn read_posts(line: &[u8], n: usize, row: u64, at: usize) -> Read
 
 // A line's row and posts. A function of its own, so that a session's lists need not be kept while it reads.
 #[inline(never)]
+#[tactic(auto, using(crate::proofs::Reading::line_short, crate::proofs::Reading::line_letter, crate::proofs::Reading::line_broken, crate::proofs::Reading::line_right))]
 fn read_line(line: &[u8], n: usize) -> Read
     ensures { result ≡ read_of n (access_fields line.now) }
 {
-    if line.len() < 1 {
+    if line.len() < 1 || line[0] != b'A' {
         return unread();
     }
-    if line[0] != 65 {
-        return unread();
-    }
-    let run = short::one_field(line, 1);
-    match run {
-        Run::Fields { largest, next } => read_posts(line, n, largest, next),
-        Run::Broken => unread(),
+    match short::one_field(line, 1) {
+        Some(row) => read_posts(line, n, row.largest, row.next),
+        None => unread(),
     }
 }
 
 // 1 to 4, of the session.
-fn settings(session: Session) -> u8
-    ensures { result ≡ first (settings_of session) }
+fn settings(session: Session) -> Result<(), Refusal>
+    ensures { refused result ≡ first (settings_of session) }
 {
     let points = Points {
         first: session.first,
         second: session.second,
     };
     session::checks::settings(session.n, session.t, session.post, session.points, points)
+}
+
+// The first refusal of two.
+#[tactic(auto, using(refusal::proofs::Endings::or_else_first))]
+fn or_else(a: u8, b: u8) -> u8
+    ensures { result ≡ or_else a b }
+{
+    if a != 0 { a } else { b }
 }
 
 // The same, where the line is not refused.
@@ -282,11 +258,13 @@ pub fn access(session: Session, line: &[u8]) -> Answer
     ensures { result ≡ access_answer session line.now }
 {
     let mut barred = session.barred;
-    let own = settings(session);
+    let own = refusal::number_of(settings(session));
     let read = read_line(line, session.n);
     let all_marks = session.marks;
-    let mark = session::checks::wrong_mark(&all_marks, read.row, shape::RAW);
-    let refusal = refusal::or_else(own, refusal::or_else(read.refusal, mark));
+    let marked = session::checks::wrong_mark(&all_marks, read.row, Mark::Raw);
+    let mark = refusal::number_of(marked);
+    let late = or_else(read.refusal, mark);
+    let refusal = or_else(own, late);
     let words = read.words;
     place_unless(refusal, &mut barred, read.row, words);
     Answer {

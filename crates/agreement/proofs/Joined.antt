@@ -1,12 +1,14 @@
 -- What joins the functions of src/lib.rt: from the two lists to the agreement of all further values.
 use Prim.Native.Nat.{ℕ, suc, ◌+◌, ◌-◌, ◌≤◌, ◌<◌}
-use mathlib.Core.Path.{◌≡◌, refl, sym, ◌∙◌, ap, ap₂, subst}
-use mathlib.Core.Bool.{Bool, true}
+use mathlib.Core.Path.{◌≡◌, refl, sym, ◌∙◌, ap, subst}
+use mathlib.Core.Bool.{Bool, true, false}
 use mathlib.Core.List.{List, [], ◌∷◌}
 use native.Mathlib.Omega.{arith}
 use lib.ListN.{length, replicate, take, drop, get_or, length-drop, length-replicate}
 use lib.Seq.{take_all, length-take-le}
-use Rattle.agreement.specs.Agreement.{all_pairs, all_agree, agrees}
+use Rattle.std.specs.Result.{MatchResult}
+use Rattle.std.proofs.Common.{Result}
+use Rattle.agreement.specs.Agreement.{all_pairs, all_agree, agrees, Settles}
 use Rattle.poly.specs.Counting.{All}
 use Rattle.poly.specs.Interpolation.{interpolated}
 use Rattle.inverses.specs.InverseTable.{most}
@@ -129,5 +131,7 @@ module _ (posts shares t gs l a b : List ℕ) (k last : ℕ) (r : Reached posts 
   }
 
 -- the answer, with the further ones as the code lends them
-pub agreed_rest : (xs ys zs ss zs' ss' : List ℕ) (r : Bool) → zs' ≡ zs → ss' ≡ ss → r ≡ all_agree xs ys zs' ss' → r ≡ all_agree xs ys zs ss
-agreed_rest xs ys zs ss zs' ss' r ez es e = e ∙ ap₂ (all_agree xs ys) ez es
+pub settled_rest : (xs ys zs ss zs' ss' : List ℕ) (r : Result ℕ ℕ) → zs' ≡ zs → ss' ≡ ss
+    → MatchResult r (λ v. Settles xs ys zs' ss' v true) (λ v. Settles xs ys zs' ss' v false)
+    → MatchResult r (λ v. Settles xs ys zs ss v true) (λ v. Settles xs ys zs ss v false)
+settled_rest xs ys zs ss zs' ss' r ez es e = rw (← ez, ← es) e

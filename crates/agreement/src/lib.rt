@@ -1,7 +1,7 @@
 // Request (iv): whether further values lie on the polynomial through the first ones, by two sums of products a value.
 #![tactic(auto)]
 
-ghost use Rattle.std.specs.Prelude.{◌≡◌, suc, ◌≤◌, ◌<◌, length, take, drop};
+ghost use Rattle.std.specs.Prelude.{◌≡◌, suc, ◌≤◌, ◌<◌, true, false, length, take, drop, MatchResult};
 ghost use Rattle.agreement.specs.Agreement.{all_agree, Settles};
 ghost use Rattle.poly.specs.Counting.{All};
 ghost use Rattle.inverses.specs.InverseTable.{Inverts};
@@ -29,8 +29,8 @@ fn all_fit(nodes: &[u32], values: &[u32], inverses: &[u32], above: &[u32], below
         × All (λ z. (length below.now ≤ z) × (z ≤ length inverses.now)) nodes.now }
     ensures { result ≡ all_fit inverses.now above.now below.now nodes.now values.now }
 {
-    for i in 0..nodes.len() {
-        let z = barycentric::wide(nodes[i]);
+    for (i, node) in nodes.iter().enumerate() {
+        let z = barycentric::wide(*node);
         if !fits(z, values[i], inverses, above, below) {
             return false;
         }
@@ -54,8 +54,8 @@ fn spread(
     let last = below.len() - 1;
     below[last] = weights[0];
     above[last] = field::mul(weights[0], value);
-    for i in 0..nodes.len() {
-        let at = last - barycentric::wide(nodes[i]);
+    for (i, node) in nodes.iter().enumerate() {
+        let at = last - barycentric::wide(*node);
         let weight = weights[i + 1];
         below[at] = weight;
         above[at] = field::mul(weight, values[i]);
@@ -100,13 +100,7 @@ fn agree_rising(
     all_fit(further, shares, inverses, above, below)
 }
 
-// The value at 0 of the polynomial through the first values, and whether all further ones lie on it.
-#[derive(Clone, Copy)]
-pub struct Found {
-    pub agree: bool,
-    pub value: u32,
-}
-
+// The value at 0 of the polynomial through the first values: `Ok` where all further ones lie on it, `Err` where one does not.
 fn through_rising(
     nodes: &[u32],
     values: &[u32],
@@ -117,23 +111,26 @@ fn through_rising(
     list: &mut [u32],
     above: &mut [u32],
     below: &mut [u32],
-) -> Found
+) -> Result<u32, u32>
     requires { Prepared nodes.now inverses.now gaps.old list.old × (length values.now ≡ length nodes.now)
         × Further (last_of 0 nodes.now) further.now shares.now inverses.now above.old below.old }
-    ensures { Settles nodes.now values.now further.now shares.now result.value result.agree }
+    ensures { MatchResult result (λ value. Settles nodes.now values.now further.now shares.now value true)
+        (λ value. Settles nodes.now values.now further.now shares.now value false) }
 {
     let value = barycentric::at_zero_rising(nodes, values, inverses, gaps, list);
-    if further.len() == 0 {
-        return Found { agree: true, value };
+    if further.is_empty()
+        || agree_rising(
+            nodes, values, value, list, further, shares, inverses, above, below,
+        )
+    {
+        Ok(value)
+    } else {
+        Err(value)
     }
-    let agree = agree_rising(
-        nodes, values, value, list, further, shares, inverses, above, below,
-    );
-    Found { agree, value }
 }
 
-// The value at 0 of the polynomial through the first k shares, and whether all further shares lie on it. The table of inverses is lent, and
-// room for as many numbers and one more.
+// The value at 0 of the polynomial through the first k shares: `Ok` where all further shares lie on it, `Err` where one does not. The
+// table of inverses is lent, and room for as many numbers and one more.
 pub fn through(
     posts: &[u32],
     shares: &[u32],
@@ -143,10 +140,11 @@ pub fn through(
     list: &mut [u32],
     above: &mut [u32],
     below: &mut [u32],
-) -> Found
+) -> Result<u32, u32>
     requires { Reached posts.now shares.now k inverses.now × Rooms inverses.now gaps.old list.old above.old below.old }
-    ensures { Settles (take k posts.now) (take k shares.now) (drop k posts.now)
-        (drop k shares.now) result.value result.agree }
+    ensures { MatchResult result
+        (λ value. Settles (take k posts.now) (take k shares.now) (drop k posts.now) (drop k shares.now) value true)
+        (λ value. Settles (take k posts.now) (take k shares.now) (drop k posts.now) (drop k shares.now) value false) }
 {
     let last = barycentric::wide(posts[k - 1]);
     let missed = last - k;

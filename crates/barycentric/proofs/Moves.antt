@@ -1,5 +1,5 @@
 -- The turns of the loops in src/lib.rt that find the missing numbers and weigh the nodes, as facts about plain lists and numbers.
-use Prim.Native.Nat.{ℕ, suc, ◌+◌, ◌-◌, ◌≤◌, ◌<◌}
+use Prim.Native.Nat.{ℕ, suc, ◌+◌, ◌≤◌, ◌<◌}
 use mathlib.Core.Path.{◌≡◌, refl, sym, ◌∙◌, ap, ap₂, subst}
 use mathlib.Core.List.{List, [], ◌∷◌, ◌++◌, append_assoc, append-nil, map, map-append}
 use native.Mathlib.Nat.{le_of_suc-le-suc, not-suc-le-zero}

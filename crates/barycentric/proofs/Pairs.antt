@@ -10,7 +10,7 @@ use lib.Dec.{lit<, ltb}
 use lib.ListN.{length, take, drop, get_or, length-take}
 use lib.Seq.{take-suc, take_all}
 use Rattle.field.specs.Modulus.{p}
-use Rattle.field.specs.Arithmetic.{difference, product}
+use Rattle.field.specs.Arithmetic.{product}
 use Rattle.field.specs.Element.{Element, element}
 use Rattle.field.proofs.Expression.{A, B, C, D, E, ◌:+◌, ◌:*◌, ◌:-◌, :-◌, Same}
 use Rattle.field.proofs.Ring.{one_mul}

@@ -1,9 +1,8 @@
 -- Between the functions of the code: weights of rising nodes.
-use Rattle.std.specs.Prelude.{ℕ, zero, suc, ◌+◌, ◌-◌, ◌%◌, ◌≤◌, ◌<◌, ◌≡◌, true, false, List, [], ◌∷◌, ◌++◌, map, eqb, ltb, length, take, drop}
-use Rattle.field.specs.Modulus.{p}
+use Rattle.std.specs.Prelude.{ℕ, zero, suc, ◌+◌, ◌-◌, ◌%◌, ◌≤◌, ◌<◌, ◌≡◌, true, false, List, [], ◌∷◌, ◌++◌, map, eqb, ltb, length, take}
 use Rattle.field.specs.Arithmetic.{difference, product}
 use Rattle.inverses.specs.InverseTable.{Inverts, most}
-use Rattle.poly.specs.Interpolation.{nodal, interpolated}
+use Rattle.poly.specs.Interpolation.{nodal}
 use Rattle.barycentric.specs.Nodes.{Rising, last_of, missing}
 
 -- Pascal's triangle modulo p, with alternating signs: (-1)^x times the number of ways to choose x of m.

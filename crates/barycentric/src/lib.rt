@@ -25,7 +25,8 @@ fn negative_inverse(inverses: &[u32], k: usize) -> u32
     field::P - inverses[k - 1]
 }
 
-// The weights of 0 to m, up to the middle of a list of m + 1: each is the one before times (m + 1 - x) / -x.
+// The weights of 0 to m, up to the middle of a list of m + 1: each is the one before times (m + 1 - x) / -x. The place x
+// is reckoned with.
 fn lower_half(inverses: &[u32], list: &mut [u32], half: usize)
     requires { Inverts inverses.now × (length list.old ≤ length inverses.now + 1) × (0 < half) × (half ≤ length list.old) }
     ensures { (length list.new ≡ length list.old)
@@ -51,7 +52,7 @@ fn mirrored(b: u32, n: usize) -> u32
     if b == 0 { 0 } else { field::P - b }
 }
 
-// The weights from the middle on.
+// The weights from the middle on, each read from its place in the list that is written.
 fn upper_half(list: &mut [u32], half: usize)
     requires { (half ≤ length list.old) × (length list.old ≤ half + half) × (take half list.old ≡ firsts (alternating (length list.old - 1)) half) }
     ensures { list.new ≡ row (length list.old) }
@@ -73,7 +74,7 @@ fn binomials(inverses: &[u32], list: &mut [u32])
     upper_half(list, half);
 }
 
-// The numbers up to the last node that are no nodes fill the list.
+// The numbers up to the last node that are no nodes fill the list. A turn goes on in the one list or the other, so both places are counted.
 fn missing(nodes: &[u32], list: &mut [u32])
     requires { Rising 0 nodes.now × (length list.old ≡ length (missing 0 nodes.now)) }
     ensures { list.new ≡ missing 0 nodes.now }
@@ -148,10 +149,10 @@ fn weigh_few(nodes: &[u32], gaps: &[u32], few: usize, list: &mut [u32])
 {
     let missed = gaps.len();
     list[0] = distances(gaps, few, 0, missed);
-    for i in 0..nodes.len() {
-        let x = wide(nodes[i]);
+    for (i, node) in nodes.iter().enumerate() {
+        let x = wide(*node);
         let above = missed + (i + 1) - x;
-        list[i + 1] = field::mul(list[x], distances(gaps, few, nodes[i], above));
+        list[i + 1] = field::mul(list[x], distances(gaps, few, *node, above));
     }
 }
 
@@ -165,9 +166,9 @@ fn weigh_four(nodes: &[u32], gaps: &[u32], k: usize, list: &mut [u32])
     let c = gaps[k + 2];
     let d = gaps[k + 3];
     list[0] = field::mul(list[0], four(0, a, b, c, d));
-    for i in 0..nodes.len() {
+    for (i, node) in nodes.iter().enumerate() {
         let at = i + 1;
-        list[at] = field::mul(list[at], four(nodes[i], a, b, c, d));
+        list[at] = field::mul(list[at], four(*node, a, b, c, d));
     }
 }
 
@@ -227,10 +228,9 @@ fn weigh_rising(nodes: &[u32], inverses: &[u32], gaps: &mut [u32], list: &mut [u
     ensures { (gaps.new ≡ missing 0 nodes.now) × WeightsOf nodes.now list.new }
 {
     binomials(inverses, list);
-    if gaps.len() == 0 {
-        return;
+    if !gaps.is_empty() {
+        weigh_gaps(nodes, gaps, list);
     }
-    weigh_gaps(nodes, gaps, list);
 }
 
 // The interpolation at 0 through rising nodes; the nodes' weights stay at the front of the list.

@@ -1,7 +1,7 @@
 -- A post's part of a record, as the code takes it: a fact for each place where it returns.
 use Prim.Native.Nat.{ℕ, zero, suc, ◌+◌, ◌*◌, ◌-◌, ◌≤◌, ◌<◌}
 use mathlib.Core.Path.{◌≡◌, refl, sym, ◌∙◌, ap}
-use mathlib.Core.Bool.{Bool, true, false, not, cond}
+use mathlib.Core.Bool.{Bool, true, false, ◌||◌, cond}
 use mathlib.Core.List.{List, [], ◌∷◌}
 use native.Mathlib.Nat.{add-sub_cancel_left, mul-le-mul_right, suc-mul, mul_comm}
 use native.Mathlib.Numerals.{add-one}
@@ -90,27 +90,28 @@ module _ (q : Party) (blocks : List ℕ) (j : ℕ) where
   unfolding bad_block_of
   good_own e = rw (eq-eqb j q.post e)
 
+  -- 8, of the block
+  abbrev found : ℕ
+  found = first (8 when bad_block_of q blocks j ∷ [])
+
+  pub own_passed : j ≡ q.post → 0 ≡ found
+  own_passed e = rw (← good_own e) refl
+
   module _ (mark : ℕ) (em : mark ≡ own_at) (n : j ≡ q.post → ⊥) where
-    pub good_absent : get_or blocks mark 0 ≡ absent → false ≡ bad_block_of q blocks j
+    pub absent_passed : get_or blocks mark 0 ≡ absent → 0 ≡ found
     unfolding bad_block_of
-    good_absent e = rw (ne_eqb j q.post n, eq-eqb (get_or blocks own_at 0) absent (rw em at e))
+    absent_passed e = rw (ne_eqb j q.post n, eq-eqb (get_or blocks own_at 0) absent (rw em at e)) refl
 
-    pub bad_mark : (get_or blocks mark 0 ≡ absent → ⊥) → present < get_or blocks mark 0 → true ≡ bad_block_of q blocks j
+    pub mark_found : (get_or blocks mark 0 ≡ absent → ⊥) → present < get_or blocks mark 0 → 8 ≡ found
     unfolding bad_block_of
-    bad_mark e h =
-        rw (ne_eqb j q.post n, ne_eqb (get_or blocks own_at 0) absent (rw em at e), lt-ltb present (get_or blocks own_at 0) (rw em at h))
+    mark_found e h =
+        rw (ne_eqb j q.post n, ne_eqb (get_or blocks own_at 0) absent (rw em at e), lt-ltb present (get_or blocks own_at 0) (rw em at h)) refl
 
-    pub bad_numbers : (r count : ℕ) → count ≡ v_length q.shape → (get_or blocks mark 0 ≡ absent → ⊥) → get_or blocks mark 0 ≤ present
-        → r ≡ first (8 when any_beyond (take (mark + 1 + count - (mark + 1)) (drop (mark + 1) blocks)) ∷ [])
-        → not (eqb r 0) ≡ bad_block_of q blocks j
+    pub numbers_found : (r count : ℕ) → count ≡ v_length q.shape → (get_or blocks mark 0 ≡ absent → ⊥) → get_or blocks mark 0 ≤ present
+        → r ≡ first (8 when any_beyond (take (mark + 1 + count - (mark + 1)) (drop (mark + 1) blocks)) ∷ []) → r ≡ found
     unfolding bad_block_of
-    bad_numbers r count ec e h g =
-        rw (ne_eqb j q.post n, ne_eqb (get_or blocks own_at 0) absent (rw em at e), le-ltb present (get_or blocks own_at 0) (rw em at h), g, em, ec, add-sub_cancel_left (own_at + 1) (v_length q.shape))
-        (told (any_beyond (take (v_length q.shape) (drop (own_at + 1) blocks))))
-      where
-        told : (b : Bool) → not (eqb (first (8 when b ∷ [])) 0) ≡ b
-        told true = refl
-        told false = refl
+    numbers_found r count ec e h g =
+        rw (ne_eqb j q.post n, ne_eqb (get_or blocks own_at 0) absent (rw em at e), le-ltb present (get_or blocks own_at 0) (rw em at h), g, em, ec, add-sub_cancel_left (own_at + 1) (v_length q.shape)) refl
 
 -- the search through the blocks
 module _ (q : Party) (blocks : List ℕ) where
@@ -120,21 +121,30 @@ module _ (q : Party) (blocks : List ℕ) where
   pub blocks_start : bad_blocks q blocks 1 (n + 1 - 1) ≡ bad_blocks q blocks 1 n
   blocks_start = ap (bad_blocks q blocks 1) (omega arith)
 
-  module _ (j : ℕ) (b : Bool) where
-    pub block_bad : (r : Bool) → j ≤ n → r ≡ bad_block_of q blocks j → r ≡ true → bad_blocks q blocks j (n + 1 - j) ≡ b
-        → 8 ≡ first (8 when b ∷ [])
+  module _ (j : ℕ) (b : Bool) (e : bad_blocks q blocks j (n + 1 - j) ≡ b) where
+    pub block_bad : (r : ℕ) → j < n + 1 → r ≡ first (8 when bad_block_of q blocks j ∷ []) → (r ≡ 0 → ⊥) → r ≡ first (8 when b ∷ [])
     unfolding bad_blocks
-    block_bad r h t z e =
-        let more : n + 1 - j ≡ suc (n + 1 - suc j) = omega arith in
-        rw (← e, more, ← t, z)
+    block_bad r h t z = go (bad_block_of q blocks j) t (sym (ap (bad_blocks q blocks j) more) ∙ e)
+      where
+        more : n + 1 - j ≡ suc (n + 1 - suc j)
+        more = omega arith
 
-    pub block_good : (r : Bool) → j ≤ n → r ≡ bad_block_of q blocks j → r ≡ false → bad_blocks q blocks j (n + 1 - j) ≡ b
-        → bad_blocks q blocks (j + 1) (n + 1 - (j + 1)) ≡ b
-    unfolding bad_blocks
-    block_good r h t z e =
-        let more : n + 1 - j ≡ suc (n + 1 - suc j) = omega arith in
-        rw (add-one j) (rw (more, ← t, z) at e)
+        go : (here : Bool) → r ≡ first (8 when here ∷ []) → (here || bad_blocks q blocks (suc j) (n + 1 - suc j)) ≡ b → r ≡ first (8 when b ∷ [])
+        go true t f = rw (← f) t
+        go false t f = absurd (z t)
 
-    pub blocks_end : n < j → bad_blocks q blocks j (n + 1 - j) ≡ b → 0 ≡ first (8 when b ∷ [])
+    pub block_good : j < n + 1 → 0 ≡ first (8 when bad_block_of q blocks j ∷ []) → bad_blocks q blocks (j + 1) (n + 1 - (j + 1)) ≡ b
     unfolding bad_blocks
-    blocks_end h e = let none : n + 1 - j ≡ 0 = omega arith in rw (← e, none)
+    block_good h t = rw (add-one j) (go (bad_block_of q blocks j) t (sym (ap (bad_blocks q blocks j) more) ∙ e))
+      where
+        more : n + 1 - j ≡ suc (n + 1 - suc j)
+        more = omega arith
+
+        go : (here : Bool) → 0 ≡ first (8 when here ∷ []) → (here || bad_blocks q blocks (suc j) (n + 1 - suc j)) ≡ b
+            → bad_blocks q blocks (suc j) (n + 1 - suc j) ≡ b
+        go true t f = absurd (omega (arith, t))
+        go false t f = f
+
+    pub blocks_end : n + 1 ≤ j → 0 ≡ first (8 when b ∷ [])
+    unfolding bad_blocks
+    blocks_end h = let none : n + 1 - j ≡ 0 = omega arith in rw (← e, none) refl

@@ -28,7 +28,8 @@ fn word(sets: &[u32], row: usize, k: usize) -> u32
     if row < 96 { sets[8 * row + k] } else { 0 }
 }
 
-// Row d bars whom row a or row b bars.
+// Row d bars whom row a or row b bars. Rows may be the same, so that all three are places in one list.
+#[tactic(auto, using(crate::proofs::Shared::shared_start, crate::proofs::Shared::shared_end))]
 pub fn share(sets: &mut [u32], d: usize, a: usize, b: usize)
     requires { (length sets.old ≡ sets_length) × (d < 96) }
     ensures { sets.new ≡ shared 8 sets.old d a b }

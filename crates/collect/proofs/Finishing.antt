@@ -1,43 +1,30 @@
--- The refusal of a finish's first call from the groups of checks that its code joins, and what holds where there is none.
+-- The refusal of a finish's first call from the groups of checks that its code asks, and what holds where there is none.
 use Prim.Native.Nat.{ℕ, ◌≤◌}
 use mathlib.Core.Path.{◌≡◌, sym, ◌∙◌}
 use mathlib.Core.List.{List, [], ◌∷◌, ◌++◌}
-use native.Mathlib.Omega.{arith}
 use borrow.Author.Tests.{ltb-false}
 use lib.ListN.{length}
 use Rattle.shape.specs.declared.Shape.{Shape}
 use Rattle.shape.specs.Bounds.{last_triple}
-use Rattle.shape.specs.Marks.{masked}
-use Rattle.shape.specs.Lengths as Lengths
 use Rattle.shape.specs.Lengths.{Valid, row_length}
-use Rattle.refusal.specs.Refusal.{Test, ◌when◌, first, or_else}
-use Rattle.refusal.specs.Conditions.{wrong_length}
+use Rattle.refusal.specs.Refusal.{Test, ◌when◌, first}
 use Rattle.refusal.proofs.Laws.{equal, all_fail}
-use Rattle.refusal.proofs.Groups.{chained, stopped, went_on}
+use Rattle.refusal.proofs.Groups.{stopped, went_on}
 use Rattle.session.specs.declared.Party.{Party}
 use Rattle.session.specs.declared.Session.{Session}
 use Rattle.session.specs.Sessions.{shape_of, party_of, factor_a_of, factor_b_of}
-use Rattle.session.specs.Checks.{frame_tests, no_row, no_triple}
+use Rattle.session.specs.Checks.{frame_tests}
 use Rattle.session.specs.Between.{Framed, RowIn, TripleIn}
 use Rattle.session.proofs.Passed.{row_below}
 use Rattle.session.proofs.Calls.{frame_passed, stopped_at_frame, past_frame}
 use Rattle.blocks.specs.Blocks as Blocks
 use Rattle.blocks.specs.Between.{Recorded}
 use Rattle.opening.specs.Walking.{record_length, bad_record}
-use Rattle.product_masks.specs.Masks.{triple_marks_of, factor_numbers_of, mask_numbers}
+use Rattle.product_masks.specs.Masks.{factor_numbers_of, mask_numbers}
 use Rattle.mask_opening.specs.Between.{Maskable}
 use Rattle.collect.specs.Collect.{finish_place, finish_marks, collect_numbers_of, collect_own_of, collect_checks_of}
 use Rattle.product_masks.proofs.Passed.{triple_below}
-use Rattle.product_masks.proofs.Joining.{joined}
 use Rattle.collect.proofs.Passed.{collect_checked, collect_framed}
-
-pub place_joined : (s : Session) (g : Shape) (r : ℕ) (l l' : List ℕ) (k u v w d e : ℕ) → g ≡ shape_of s → k ≡ Lengths.record_length g
-    → u ≡ first (5 when wrong_length l k ∷ []) → v ≡ first (5 when wrong_length l' k ∷ []) → w ≡ first (6 when no_triple r ∷ []) → d ≡ or_else v w
-    → e ≡ or_else u d → e ≡ first (finish_place s r l l')
-place_joined s g r l l' k u v w d e eg ek eu ev ew ed ee =
-    let hu : u ≡ first (5 when wrong_length l (record_length s) ∷ []) = rw (ek, eg) at eu in
-    let hv : v ≡ first (5 when wrong_length l' (record_length s) ∷ []) = rw (ek, eg) at ev in
-    chained (finish_place s r l l') tt e (cc)
 
 -- what holds of a session's own party holds of the party that the code made of it
 module _ (s : Session) (q : Party) (e : q ≡ party_of s) where
@@ -49,27 +36,42 @@ module _ (s : Session) (q : Party) (e : q ≡ party_of s) where
   party_maskable rows a b r l l' f ha hb hr h h' =
       rw e (record { sized = f.sized; a_in = ha; b_in = hb; triple_in = hr; recorded_a = h; recorded_b = h' })
 
-pub marks_joined : (s : Session) (a b r u v w d e : ℕ) → u ≡ first (7 when no_row a ∷ []) → v ≡ first (7 when no_row b ∷ [])
-    → w ≡ first (triple_marks_of s a b r masked) → d ≡ or_else v w → e ≡ or_else u d → e ≡ first (finish_marks s a b r)
-marks_joined s a b r u v w d e eu ev ew ed ee =
-    joined (7 when no_row a ∷ []) (7 when no_row b ∷ triple_marks_of s a b r masked) tt u d e eu
-    (joined (7 when no_row b ∷ []) (triple_marks_of s a b r masked) tt v w d ev ew ed) ee
+-- the rows stop 8, or the first record does, or the second decides
+module _ (s : Session) (g : Shape) (p : Party) (rows : List ℕ) (a b r : ℕ) (l l' : List ℕ) (eg : g ≡ shape_of s) (u : ℕ)
+    (eu : u ≡ first (factor_numbers_of (row_length g) rows a b r)) where
+  abbrev of_a : List Test
+  of_a = 8 when bad_record s l ∷ []
 
-pub numbers_joined : (s : Session) (g : Shape) (p : Party) (rows : List ℕ) (a b r : ℕ) (l l' : List ℕ) (u w x d f : ℕ)
-    → g ≡ shape_of s → p ≡ party_of s → u ≡ first (factor_numbers_of (row_length g) rows a b r)
-    → w ≡ first (8 when Blocks.bad_record p l ∷ []) → x ≡ first (8 when Blocks.bad_record p l' ∷ []) → d ≡ or_else w x → f ≡ or_else u d
-    → f ≡ first (collect_numbers_of s rows a b r l l')
-numbers_joined s g p rows a b r l l' u w x d f eg ep eu ew ex ed ef =
-    let own = 8 when bad_record s l ∷ 8 when bad_record s l' ∷ [] in
-    let hw : w ≡ first (8 when bad_record s l ∷ []) = rw ep at ew in
-    let hx : x ≡ first (8 when bad_record s l' ∷ []) = rw ep at ex in
-    joined (mask_numbers s rows a b r) own tt u d f (rw eg at eu) (chained own tt d (cc)) ef
+  abbrev of_b : List Test
+  of_b = 8 when bad_record s l' ∷ []
 
-pub own_joined : (s : Session) (rows : List ℕ) (r : ℕ) (l l' : List ℕ) (u v w : ℕ)
-    → u ≡ first (finish_marks s (factor_a_of s r) (factor_b_of s r) r)
-    → v ≡ first (collect_numbers_of s rows (factor_a_of s r) (factor_b_of s r) r l l') → w ≡ or_else u v → w ≡ first (collect_own_of s rows r l l')
-own_joined s rows r l l' =
-    joined (finish_marks s (factor_a_of s r) (factor_b_of s r) r) (collect_numbers_of s rows (factor_a_of s r) (factor_b_of s r) r l l') tt
+  rows_are : u ≡ first (mask_numbers s rows a b r)
+  rows_are = rw eg at eu
+
+  pub numbers_stopped : (u ≡ 0 → ⊥) → u ≡ first (collect_numbers_of s rows a b r l l')
+  numbers_stopped = stopped (mask_numbers s rows a b r) (of_a ++ of_b) tt u rows_are
+
+  module _ (z : u ≡ 0) (ep : p ≡ party_of s) (w : ℕ) (ew : w ≡ first (8 when Blocks.bad_record p l ∷ [])) where
+    behind : (x : ℕ) → x ≡ first (of_a ++ of_b) → x ≡ first (collect_numbers_of s rows a b r l l')
+    behind x = went_on (mask_numbers s rows a b r) (of_a ++ of_b) tt u rows_are x z
+
+    pub numbers_first : (w ≡ 0 → ⊥) → w ≡ first (collect_numbers_of s rows a b r l l')
+    numbers_first n = behind w (stopped of_a of_b tt w (rw ep at ew) n)
+
+    pub numbers_second : w ≡ 0 → (x : ℕ) → x ≡ first (8 when Blocks.bad_record p l' ∷ []) → x ≡ first (collect_numbers_of s rows a b r l l')
+    numbers_second y x ex = behind x (went_on of_a of_b tt w (rw ep at ew) x y (rw ep at ex))
+
+-- 7 stops the call's own checks, or 8 decides
+module _ (s : Session) (rows : List ℕ) (r : ℕ) (l l' : List ℕ) (u : ℕ) (eu : u ≡ first (finish_marks s (factor_a_of s r) (factor_b_of s r) r)) where
+  abbrev numbers : List Test
+  numbers = collect_numbers_of s rows (factor_a_of s r) (factor_b_of s r) r l l'
+
+  pub own_stopped : (u ≡ 0 → ⊥) → u ≡ first (collect_own_of s rows r l l')
+  own_stopped = stopped (finish_marks s (factor_a_of s r) (factor_b_of s r) r) numbers tt u eu
+
+  pub own_asked : u ≡ 0 → (v : ℕ) → v ≡ first (collect_numbers_of s rows (factor_a_of s r) (factor_b_of s r) r l l')
+      → v ≡ first (collect_own_of s rows r l l')
+  own_asked z v ev = went_on (finish_marks s (factor_a_of s r) (factor_b_of s r) r) numbers tt u eu v z ev
 
 module _ (s : Session) (rows : List ℕ) (r : ℕ) (l l' : List ℕ) where
   abbrev place : List Test

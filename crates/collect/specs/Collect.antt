@@ -1,17 +1,19 @@
 -- Document 02, (viii), the first call: "The first call opens y and y' and remembers them; the triple's first row then has mark 7." It
 -- takes a triple marked 5, 4, 4 and two records, as a finish did; "A first call on mark 7 gets refusal 7." What it shares with the old
 -- finish has that call's name.
-use Rattle.std.specs.Prelude.{ℕ, ◌+◌, List, [], ◌∷◌, ◌++◌}
+use Rattle.std.specs.Prelude.{ℕ, ◌+◌, Result, Ok, Err, List, [], ◌∷◌, ◌++◌}
 use Rattle.shape.specs.Marks.{masked}
 use Rattle.refusal.specs.Refusal.{Test, ◌when◌, first, outcome}
 use Rattle.refusal.specs.Conditions.{wrong_length}
+use Rattle.refusal.specs.declared.Refusal.{Refusal}
+use Rattle.refusal.specs.Numbers.{number}
 use Rattle.session.specs.declared.Session.{Session}
 use Rattle.session.specs.declared.Answer.{Answer}
 use Rattle.session.specs.Sessions.{shape_of, factor_a_of, factor_b_of, collected_triple, answer}
 use Rattle.session.specs.Checks.{frame_tests, no_row, no_triple}
 use Rattle.opening.specs.Walking.{record_length, bad_record, too_few_of, disagree, opened}
 use Rattle.product_masks.specs.Masks.{mask_row, triple_marks_of, mask_numbers}
-use Rattle.collect.specs.declared.OpenedMasks.{OpenedMasks}
+use Rattle.collect.specs.declared.Numbers.{Numbers}
 
 -- The rows that are opened: a − l and b − l', with the factor rows that the masks remembered.
 abbrev pub mask_a : Session → List ℕ → ℕ → List ℕ
@@ -34,7 +36,16 @@ abbrev pub unopened : Session → List ℕ → List ℕ → List ℕ → List �
 unopened s x x' blocks_a blocks_b =
     9 when too_few_of s x blocks_a ∷ 9 when too_few_of s x' blocks_b ∷ 13 when disagree s x blocks_a ∷ 13 when disagree s x' blocks_b ∷ []
 
--- Two numbers opened, or the refusal.
+-- Two numbers opened, or the refusal with 0 for both; and how the code has it.
+pub record OpenedMasks : Type 0 where
+  pub refusal : ℕ
+  pub y_a : ℕ
+  pub y_b : ℕ
+
+abbrev pub shown : Result Numbers Refusal → OpenedMasks
+shown (Ok y) = record { refusal = 0; y_a = y.y_a; y_b = y.y_b }
+shown (Err r) = record { refusal = number r; y_a = 0; y_b = 0 }
+
 abbrev pub found : ℕ → ℕ → ℕ → OpenedMasks
 found refusal y_a_of y_b_of =
     outcome refusal (record { refusal = 0; y_a = y_a_of; y_b = y_b_of }) (record { refusal = refusal; y_a = 0; y_b = 0 })

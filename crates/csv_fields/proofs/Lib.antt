@@ -2,7 +2,6 @@
 pub mod Overwriting
 pub mod Fronting
 pub mod Laying
-pub mod Moving
 pub mod Passing
 pub mod Rooming
 pub mod Single

@@ -5,7 +5,7 @@ use mathlib.Core.List.{List, [], ◌∷◌, ◌++◌, append_assoc, append-nil}
 use native.Mathlib.Omega.{arith}
 use native.Mathlib.Numerals.{add-one}
 use native.Mathlib.Nat.{add-sub_cancel_left}
-use borrow.Rule.Slice.PartMut.{put_mid, same_len_mid}
+use borrow.Rule.Slice.PartMut.{put_mid}
 use mir.Syntax.{w64}
 use mir.Val.{Fits}
 use lib.ListN.{length, get_or, set, take, drop, length-append, length-drop, length-set, take-append-drop}
@@ -65,9 +65,6 @@ module _ (l : List ℕ) (at k x : ℕ) (h : at + length (field x) ≤ length l) 
       (overwrite_part (set l at 44) (numeral x) (at + 1) k (length_numeral x ∙ sym e)
       ∙ rw (overwrite_byte l at 44 b) (overwrite_twice l (44 ∷ []) (numeral x) at p))
 
-pub field_same : (l ys : List ℕ) (at k : ℕ) → length ys ≡ length (take k (drop (at + 1) (set l at 44))) → length (put_mid (at + 1) k (set l at 44) ys) ≡ length l
-field_same l ys at k e = same_len_mid (at + 1) k (set l at 44) ys e ∙ length-set l at 44
-
 -- ---- the fields of a list
 pub fields_append : (xs ys : List ℕ) → fields (xs ++ ys) ≡ fields xs ++ fields ys
 unfolding fields
@@ -102,9 +99,6 @@ unfolding fields
 put_start_lem l xs at h = record { room = h; within = omega arith; same = refl; place = omega arith; list = overwrite_nothing l at }
 
 module _ (l : List ℕ) (at : ℕ) (xs out : List ℕ) (pos i : ℕ) (inv : Put l at xs out pos i) where
-  pub put_same : length out ≡ length l
-  put_same = inv.same
-
   pub put_room : i < length xs → pos + length (field (get_or xs i 0)) ≤ length out
   put_room h = omega (arith, inv.room, inv.same, inv.place, length_more xs i h, length_part xs (i + 1))
 

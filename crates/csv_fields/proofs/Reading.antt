@@ -9,8 +9,8 @@ use lib.ListN.{length, get_or, drop, length-append, drop_of_length-le}
 use lib.Seq.{drop-drop, get_or_at}
 use lib.Dec.{eqb}
 use Rattle.decimal.specs.declared.Field.{Field}
-use Rattle.decimal.specs.declared.Field.TheVariants.{Number, Wrong}
-use Rattle.decimal.specs.Numeral.{size, numeral, leading, field_of, field_at}
+use Rattle.std.specs.Prelude.{Option, Some, None}
+use Rattle.decimal.specs.Numeral.{number, size, numeral, leading, field_of, field_at}
 use Rattle.csv_fields.specs.Fields.{field, fields, written, Parsed, parsed, malformed, push, behind, fields_at, ended, Small}
 use Rattle.decimal.proofs.Digits.{and_true}
 use Rattle.decimal.proofs.Numerals.{length_numeral, numeral_reads, number_is_numeral}
@@ -32,7 +32,7 @@ fields_read (x ∷ xs) s rest at h z e =
     drop_past s at 1 (44 ∷ []) _ (e ∙ ap (λ (l : List ℕ). 44 ∷ l) (append_assoc (numeral x) (fields xs) rest)) refl in
     let n : drop (at + 1 + size x) s ≡ fields xs ++ rest = drop_past s (at + 1) (size x) (numeral x) _ d (length_numeral x) in
     let c : get_or s at 0 ≡ 44 = head_at s at ∙ ap (λ (l : List ℕ). get_or l 0 0) e in
-    let f : field_at s (at + 1) ≡ Number x (at + 1 + size x) =
+    let f : field_at s (at + 1) ≡ number x (at + 1 + size x) =
     ap (λ (l : List ℕ). field_of l (at + 1)) d ∙ numeral_reads x (at + 1) (fields xs ++ rest) h.0 (no_digit xs rest z) in
     let m : at + 1 + size x + length (fields xs) ≡ at + length (field x ++ fields xs) =
     omega (arith, length-append (field x) (fields xs), length_field x) in
@@ -48,7 +48,7 @@ pub record Spells (s : List ℕ) (at k : ℕ) (xs : List ℕ) (next : ℕ) : Typ
 not_parsed : {A : Type 0} (xs : List ℕ) (n : ℕ) → malformed ≡ parsed xs n → A
 not_parsed xs n e = let z : ◌≡◌ {A = ℕ} 0 1 = cc in absurd (omega arith)
 
-spells_more : (k : ℕ) (s : List ℕ) (at x next : ℕ) (ys : List ℕ) (end : ℕ) → get_or s at 0 ≡ 44 → field_at s (at + 1) ≡ Number x next
+spells_more : (k : ℕ) (s : List ℕ) (at x next : ℕ) (ys : List ℕ) (end : ℕ) → get_or s at 0 ≡ 44 → field_at s (at + 1) ≡ number x next
     → Spells s next k ys end → Spells s at (suc k) (x ∷ ys) end
 unfolding fields
 spells_more k s at x next ys end c f r =
@@ -73,7 +73,7 @@ fields_spelled zero s at xs next e =
     rw (p, q) record { text = refl; place = omega arith; number = refl; small = tt }
 fields_spelled (suc k) s at xs next e = comma (eqb (get_or s at 0) 44) refl (fields_spelled k s) e
   where
-    rest : (x then : ℕ) (o : Parsed) → get_or s at 0 ≡ 44 → field_at s (at + 1) ≡ Number x then
+    rest : (x then : ℕ) (o : Parsed) → get_or s at 0 ≡ 44 → field_at s (at + 1) ≡ number x then
         → ((ys : List ℕ) (end : ℕ) → o ≡ parsed ys end → Spells s then k ys end) → push x o ≡ parsed xs next → Spells s at (suc k) xs next
     rest x then malformed c f ih e = not_parsed xs next e
     rest x then (parsed ys end) c f ih e =
@@ -81,11 +81,11 @@ fields_spelled (suc k) s at xs next e = comma (eqb (get_or s at 0) 44) refl (fie
         let q : next ≡ end = cc in
         rw (p, q) (spells_more k s at x then ys end c f (ih ys end refl))
 
-    found : (f : Field) → get_or s at 0 ≡ 44 → field_at s (at + 1) ≡ f
+    found : (f : Option Field) → get_or s at 0 ≡ 44 → field_at s (at + 1) ≡ f
         → ((then : ℕ) (ys : List ℕ) (end : ℕ) → fields_at k s then ≡ parsed ys end → Spells s then k ys end)
         → behind f (λ x then. push x (fields_at k s then)) ≡ parsed xs next → Spells s at (suc k) xs next
-    found (Number x then) c f ih e = rest x then (fields_at k s then) c f (ih then) e
-    found Wrong c f ih e = not_parsed xs next e
+    found (Some g) c f ih e = rest g.value g.next (fields_at k s g.next) c f (ih g.next) e
+    found None c f ih e = not_parsed xs next e
 
     comma : (t : Bool) → eqb (get_or s at 0) 44 ≡ t
         → ((then : ℕ) (ys : List ℕ) (end : ℕ) → fields_at k s then ≡ parsed ys end → Spells s then k ys end)

@@ -1,23 +1,17 @@
 -- The loop that reads fields into a room: what is read so far, and then what the rest says, is what the whole says.
 use Prim.Native.Nat.{ℕ, suc, ◌+◌, ◌-◌, ◌%◌, ◌≤◌, ◌<◌}
-use mathlib.Core.Path.{◌≡◌, refl, ap, sym, subst, ◌∙◌}
+use mathlib.Core.Path.{◌≡◌, refl, ap, sym, ◌∙◌}
 use mathlib.Core.List.{List, [], ◌∷◌, ◌++◌, append_assoc, append-nil}
-use mathlib.Core.Bool.{Bool, true, false, cond}
 use native.Mathlib.Omega.{arith}
 use native.Mathlib.Numerals.{add-one}
-use lib.ListN.{length, get_or, set, take, length-set}
+use lib.ListN.{length, set, take}
 use lib.Seq.{take-suc-set, take_all}
-use lib.Dec.{eqb}
+use Rattle.std.specs.Prelude.{Option, Some, None}
+use Rattle.csv_fields.specs.declared.Reader.{Reader}
 use Rattle.decimal.specs.declared.Field.{Field}
-use Rattle.decimal.specs.declared.Field.TheVariants.{Number, Wrong}
-use Rattle.decimal.specs.Numeral.{field_at}
-use Rattle.csv_fields.specs.declared.Tally.{Tally}
-use Rattle.csv_fields.specs.Walk.{comma_field_of, place_behind, counted, settled, low_in, lows, Roomed}
-use Rattle.csv_fields.specs.Fields.{Parsed, parsed, malformed, push, behind, fields_at, numbers_of_of, run_from, Fits32, Fillable}
-use Rattle.csv_fields.proofs.Passing.{rest_run, passed_more, passed_end}
-
-abbrev pub rest_of : Tally → List ℕ → ℕ → Parsed
-rest_of t s at = cond t.whole (fields_at t.left s at) malformed
+use Rattle.csv_fields.specs.Walk.{comma_field_of, step_from, lows, Roomed}
+use Rattle.csv_fields.specs.Fields.{Parsed, parsed, malformed, push, fields_at, numbers_of_of, run_from, Fits32, Fillable}
+use Rattle.csv_fields.proofs.Passing.{fields_more, step_field, step_left, step_at}
 
 abbrev pub lows_of : Parsed → Parsed
 lows_of (parsed xs next) = parsed (lows xs) next
@@ -27,102 +21,38 @@ abbrev pub ahead : List ℕ → Parsed → Parsed
 ahead l (parsed xs next) = parsed (l ++ xs) next
 ahead l malformed = malformed
 
-pub record Rooming (s ys : List ℕ) (from_at m : ℕ) : Type 0 where
-  pub at : ℕ
-  pub i : ℕ
-  pub out : List ℕ
-  pub tally : Tally
-  pub within : i + tally.left ≤ length ys
-  pub all : tally.whole ≡ true → i + tally.left ≡ length ys
-  pub same : length out ≡ length ys
-  pub leads : rest_run tally s at ≡ run_from m (fields_at (length ys) s from_at)
-  pub says : ahead (take i out) (lows_of (rest_of tally s at)) ≡ lows_of (fields_at (length ys) s from_at)
-
 -- ---- one field more
-pub left_after : (t : Tally) (f : Field) → (counted t f).whole ≡ true → (t.whole ≡ true) × ((counted t f).left ≡ t.left - 1)
-left_after t (Number x next) e = (e, refl)
-left_after t Wrong e = let z : ◌≡◌ {A = ℕ} 0 1 = cc in absurd (omega arith)
+pushed : (l : List ℕ) (x : ℕ) (o : Parsed) → ahead (l ++ ((x % 4294967296) ∷ [])) (lows_of o) ≡ ahead l (lows_of (push x o))
+unfolding lows
+pushed l x (parsed xs next) = ap (λ (u : List ℕ). parsed u next) (append_assoc l ((x % 4294967296) ∷ []) (lows xs))
+pushed l x malformed = refl
 
-pub left_below : (t : Tally) (f : Field) → (counted t f).left ≤ t.left - 1
-left_below t (Number x next) = omega arith
-left_below t Wrong = omega arith
+said_more : (s out : List ℕ) (at i n : ℕ) (f : Field) → i < length out → comma_field_of s at ≡ Some f
+    → ahead (take (i + 1) (set out i (f.value % 4294967296))) (lows_of (fields_at n s f.next)) ≡ ahead (take i out) (lows_of (fields_at (suc n) s at))
+said_more s out at i n f h e =
+    rw (fields_more s at n, e, add-one i, take-suc-set out i (f.value % 4294967296) h) (pushed (take i out) f.value (fields_at n s f.next))
 
-module _ (s : List ℕ) (at : ℕ) where
-  pushed : (l : List ℕ) (x : ℕ) (o : Parsed) → ahead (l ++ ((x % 4294967296) ∷ [])) (lows_of o) ≡ ahead l (lows_of (push x o))
-  unfolding lows
-  pushed l x (parsed xs next) = ap (λ (u : List ℕ). parsed u next) (append_assoc l ((x % 4294967296) ∷ []) (lows xs))
-  pushed l x malformed = refl
+-- one turn: a reader r over the line s has read its next field o, and is moved on
+module _ (s : List ℕ) (r v : Reader) (o : Option Field) (same : r.line.now ≡ s) (e : o ≡ (step_from r).field) (q : v ≡ (step_from r).reader) where
+  pub room_more : (out : List ℕ) (t k : ℕ) (f : Field) → t < k → t < length out → o ≡ Some f
+      → ahead (take (t + 1) (set out t (f.value % 4294967296))) (lows_of (fields_at (k - (t + 1)) s v.at))
+      ≡ ahead (take t out) (lows_of (fields_at (k - t) s r.at))
+  room_more out t k f h l w =
+      rw (step_left s r v o same e q t k 0 h, step_at s r v o same e q t k 0 h f w)
+      (said_more s out r.at t (k - (t + 1)) f l (sym (step_field s r v o same e q) ∙ w))
 
-  one_more : (out : List ℕ) (i : ℕ) → i < length out → (n m : ℕ) (w b : Bool) (g : Field)
-      → ahead (take (i + 1) (set out i (low_in (cond b g Wrong))))
-      (lows_of (rest_of (counted (record { left = n + 1; largest = m; whole = w }) (cond b g Wrong)) s (place_behind (cond b g Wrong) at)))
-      ≡ ahead (take i out) (lows_of (cond w (cond b (behind g (λ x next. push x (fields_at n s next))) malformed) malformed))
-  one_more out i h n m true true (Number x next) =
-      let e : n + 1 - 1 ≡ n = omega arith in
-      rw (e, add-one i, take-suc-set out i (x % 4294967296) h) (pushed (take i out) x (fields_at n s next))
-  one_more out i h n m true true Wrong = refl
-  one_more out i h n m true false g = refl
-  one_more out i h n m false true (Number x next) = refl
-  one_more out i h n m false true Wrong = refl
-  one_more out i h n m false false g = refl
+-- ---- where the loop ends
+pub room_none : (out : List ℕ) (m : ℕ) (o : Parsed) → None ≡ run_from m o → Roomed o out
+room_none out m malformed q = tt
+room_none out m (parsed xs next) q = let z : ◌≡◌ {A = ℕ} 0 1 = cc in absurd (omega arith)
 
-  pub said_more : (out : List ℕ) (i : ℕ) (t : Tally) → i < length out → 0 < t.left
-      → ahead (take (i + 1) (set out i (low_in (comma_field_of s at)))) (lows_of (rest_of (counted t (comma_field_of s at)) s (place_behind (comma_field_of s at) at)))
-      ≡ ahead (take i out) (lows_of (rest_of t s at))
-  unfolding fields_at
-  said_more out i t l h =
-      let e : t.left ≡ t.left - 1 + 1 = omega arith in
-      let d : t.left - 1 + 1 ≡ suc (t.left - 1) = add-one (t.left - 1) in
-      subst (λ (n : ℕ). ahead (take (i + 1) (set out i (low_in (comma_field_of s at))))
-      (lows_of (rest_of (counted (record { left = n; largest = t.largest; whole = t.whole }) (comma_field_of s at)) s (place_behind (comma_field_of s at) at)))
-      ≡ ahead (take i out) (lows_of (rest_of (record { left = n; largest = t.largest; whole = t.whole }) s at))) (sym e)
-      (one_more out i l (t.left - 1) t.largest t.whole (eqb (get_or s at 0) 44) (field_at s (at + 1)) ∙ rw d)
-
-module _ (s ys : List ℕ) (from_at m : ℕ) where
-  abbrev k : ℕ
-  k = length ys
-
-  module _ (t : Rooming s ys from_at m) where
-    pub room_run : t.tally.left ≤ 0 → settled t.tally t.at ≡ run_from m (fields_at k s from_at)
-    room_run h = passed_end s t.at t.tally h ∙ t.leads
-
-    pub room_filled : t.tally.left ≤ 0 → Roomed (fields_at k s from_at) t.out
-    unfolding fields_at lows
-    room_filled h = by_form (fields_at k s from_at) t.tally.whole refl t.says
-      where
-        z : t.tally.left ≡ 0
-        z = omega arith
-
-        by_form : (o : Parsed) (w : Bool) → t.tally.whole ≡ w → ahead (take t.i t.out) (lows_of (cond w (fields_at t.tally.left s t.at) malformed)) ≡ lows_of o
-            → Roomed o t.out
-        by_form malformed w e q = tt
-        by_form (parsed xs next) false e q = let z : ◌≡◌ {A = ℕ} 0 1 = cc in absurd (omega arith)
-        by_form (parsed xs next) true e q =
-            let i : length t.out ≤ t.i = omega (arith, t.same, t.all e, z) in
-            let p : parsed (t.out ++ []) t.at ≡ parsed (lows xs) next = rw (z, take_all t.i t.out i) at q in
-            let r : t.out ++ [] ≡ lows xs = cc in
-            sym (append-nil t.out) ∙ r
-
-    module _ (h : 0 < t.tally.left) where
-      pub room_index : t.i < length t.out
-      room_index = omega (arith, t.same, t.within)
-
-      abbrev pub room_further : Rooming s ys from_at m
-      room_further =
-          record {
-            at = place_behind (comma_field_of s t.at) t.at;
-            i = t.i + 1;
-            out = set t.out t.i (low_in (comma_field_of s t.at));
-            tally = counted t.tally (comma_field_of s t.at);
-            within = omega (arith, t.within, left_below t.tally (comma_field_of s t.at));
-            all =
-                λ e.
-                let w = left_after t.tally (comma_field_of s t.at) e in
-                omega (arith, t.all w.0, w.1);
-            same = length-set t.out t.i (low_in (comma_field_of s t.at)) ∙ t.same;
-            leads = passed_more s t.at t.tally h ∙ t.leads;
-            says = said_more s t.at t.out t.i t.tally room_index h ∙ t.says;
-          }
+pub room_filled : (s out : List ℕ) (at i : ℕ) (o : Parsed) → length out ≤ i → ahead (take i out) (lows_of (fields_at 0 s at)) ≡ lows_of o → Roomed o out
+unfolding fields_at lows
+room_filled s out at i malformed h q = tt
+room_filled s out at i (parsed xs next) h q =
+    let p : parsed (out ++ []) at ≡ parsed (lows xs) next = rw (take_all i out h) at q in
+    let r : out ++ [] ≡ lows xs = cc in
+    sym (append-nil out) ∙ r
 
 -- ---- numbers that fit are their lowest bits
 pub lows_fit : (xs : List ℕ) → Fits32 xs → lows xs ≡ xs

@@ -1,18 +1,19 @@
 -- The first of several fields, read alone; the largest of their numbers.
-use Prim.Native.Nat.{ℕ, suc, ◌+◌, ◌≤◌, ◌<◌}
-use mathlib.Core.Path.{◌≡◌, refl, sym, ◌∙◌}
+use Prim.Native.Nat.{ℕ, suc, ◌≤◌, ◌<◌}
+use mathlib.Core.Path.{◌≡◌, refl, ap, ◌∙◌}
 use mathlib.Core.List.{List, [], ◌∷◌}
 use mathlib.Core.Bool.{Bool, true, false, cond}
 use native.Mathlib.Omega.{arith}
-use borrow.Author.Tests.{ltb-true, ltb-false, ne_eqb}
-use lib.ListN.{length, get_or, get_or-eq_default}
-use lib.Dec.{eqb, ltb}
+use borrow.Author.Tests.{ltb-true, ltb-false}
+use lib.Dec.{ltb}
 use Rattle.decimal.specs.declared.Field.{Field}
-use Rattle.decimal.specs.declared.Field.TheVariants.{Number, Wrong}
+use Prim.Native.Nat.{max}
+use Rattle.std.proofs.lemmas.Bool.Decides.{nat_tests}
+use Rattle.std.specs.Prelude.{Option, Some, None}
 use Rattle.csv_fields.specs.declared.Run.{Run}
-use Rattle.csv_fields.specs.declared.Run.TheVariants.{Fields, Broken}
-use Rattle.decimal.specs.Numeral.{field_at}
-use Rattle.csv_fields.specs.Fields.{parsed, malformed, push, behind, fields_at, run_of, largest_from, Fits32}
+use Rattle.csv_fields.specs.Fields.{malformed, push, behind, fields_at, run, run_of, largest_from, Fits32}
+use Rattle.csv_fields.specs.Walk.{comma_field_of}
+use Rattle.csv_fields.proofs.Passing.{fields_more}
 
 -- the largest of one number is the number
 largest_one : (x : ℕ) → cond (ltb 0 x) x 0 ≡ x
@@ -24,53 +25,32 @@ largest_one x = go (ltb 0 x) refl
 
 -- ---- one field, by what stands at its position
 module _ (s : List ℕ) (at : ℕ) where
-  pub one_short : length s ≤ at → Broken ≡ run_of (fields_at 1 s at)
+  pub one_none : None ≡ comma_field_of s at → None ≡ run_of (fields_at 1 s at)
+  one_none e = rw (fields_more s at 0, ← e)
+
+  pub one_number : (f : Field) → Some f ≡ comma_field_of s at → run f.value f.next ≡ run_of (fields_at 1 s at)
   unfolding fields_at
-  one_short h = rw (get_or-eq_default s 0 h)
+  one_number f e = rw (fields_more s at 0, ← e, largest_one f.value)
 
-  pub one_none : (get_or s at 0 ≡ 44 → ⊥) → Broken ≡ run_of (fields_at 1 s at)
+module _ (k : ℕ) (s : List ℕ) (at : ℕ) where
+  pub first_found : (r : Run) → Some r ≡ run_of (fields_at 1 s at) → fields_at (suc k) s at ≡ push r.largest (fields_at k s r.next)
   unfolding fields_at
-  one_none h = rw (ne_eqb (get_or s at 0) 44 h)
-
-  module _ (f : Field) (c : get_or s at 0 ≡ 44) (e : f ≡ field_at s (at + 1)) where
-    pub one_number : (x next : ℕ) → f ≡ Number x next → Fields x next ≡ run_of (fields_at 1 s at)
-    unfolding fields_at
-    one_number x next w = rw (c, ← e, w, largest_one x)
-
-    pub one_wrong : f ≡ Wrong → Broken ≡ run_of (fields_at 1 s at)
-    unfolding fields_at
-    one_wrong w = rw (c, ← e, w)
-
-module _ (k : ℕ) (s : List ℕ) (at : ℕ) (r : Run) (e : r ≡ run_of (fields_at 1 s at)) where
-  pub first_found : (x next : ℕ) → r ≡ Fields x next → fields_at (suc k) s at ≡ push x (fields_at k s next)
-  unfolding fields_at
-  first_found x next w = comma (eqb (get_or s at 0) 44) (field_at s (at + 1)) (sym e ∙ w)
+  first_found r e = rw (fields_more s at k) (found (comma_field_of s at) (e ∙ ap run_of (fields_more s at 0)))
     where
-      found : (f : Field) → run_of (behind f (λ y then. push y (parsed [] then))) ≡ Fields x next
-          → behind f (λ y then. push y (fields_at k s then)) ≡ push x (fields_at k s next)
-      found (Number y then) q =
-          let a : y ≡ x = sym (largest_one y) ∙ cc in
-          let b : then ≡ next = cc in
-          rw (a, b)
-      found Wrong q = let z : ◌≡◌ {A = ℕ} 0 1 = cc in absurd (omega arith)
+      found : (o : Option Field) → Some r ≡ run_of (behind o (λ x next. push x (fields_at 0 s next)))
+          → behind o (λ x next. push x (fields_at k s next)) ≡ push r.largest (fields_at k s r.next)
+      found (Some f) q =
+          let h : r ≡ record { largest = cond (ltb 0 f.value) f.value 0; next = f.next } = cc in
+          rw (h, largest_one f.value)
+      found None q = let z : ◌≡◌ {A = ℕ} 0 1 = cc in absurd (omega arith)
 
-      comma : (t : Bool) (f : Field) → run_of (cond t (behind f (λ y then. push y (parsed [] then))) malformed) ≡ Fields x next
-          → cond t (behind f (λ y then. push y (fields_at k s then))) malformed ≡ push x (fields_at k s next)
-      comma true f q = found f q
-      comma false f q = let z : ◌≡◌ {A = ℕ} 0 1 = cc in absurd (omega arith)
-
-  pub first_broken : r ≡ Broken → fields_at (suc k) s at ≡ malformed
+  pub first_broken : None ≡ run_of (fields_at 1 s at) → fields_at (suc k) s at ≡ malformed
   unfolding fields_at
-  first_broken w = comma (eqb (get_or s at 0) 44) (field_at s (at + 1)) (sym e ∙ w)
+  first_broken e = rw (fields_more s at k) (found (comma_field_of s at) (e ∙ ap run_of (fields_more s at 0)))
     where
-      found : (f : Field) → run_of (behind f (λ y then. push y (parsed [] then))) ≡ Broken → behind f (λ y then. push y (fields_at k s then)) ≡ malformed
-      found (Number y then) q = let z : ◌≡◌ {A = ℕ} 0 1 = cc in absurd (omega arith)
-      found Wrong q = refl
-
-      comma : (t : Bool) (f : Field) → run_of (cond t (behind f (λ y then. push y (parsed [] then))) malformed) ≡ Broken
-          → cond t (behind f (λ y then. push y (fields_at k s then))) malformed ≡ malformed
-      comma true f q = found f q
-      comma false f q = refl
+      found : (o : Option Field) → None ≡ run_of (behind o (λ x next. push x (fields_at 0 s next))) → behind o (λ x next. push x (fields_at k s next)) ≡ malformed
+      found (Some f) q = let z : ◌≡◌ {A = ℕ} 0 1 = cc in absurd (omega arith)
+      found None q = refl
 
 -- ---- the largest
 larger_above : (m x : ℕ) → (m ≤ cond (ltb m x) x m) × (x ≤ cond (ltb m x) x m)
@@ -89,3 +69,7 @@ largest_narrow m [] h = tt
 largest_narrow m (x ∷ xs) h =
     let k : ℕ = cond (ltb m x) x m in
     (omega (arith, (larger_above m x).1, largest_above k xs), largest_narrow k xs h)
+
+-- as the code asks: the larger of two
+pub larger_is : (m x k : ℕ) → k ≡ max m x → k ≡ cond (ltb m x) x m
+larger_is m x k e = e ∙ grind (arith, nat_tests)

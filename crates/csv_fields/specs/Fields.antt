@@ -1,9 +1,7 @@
 -- Document 01, "Broadcast lines": "fields parted by commas". Here every field stands behind its comma.
-use Rattle.std.specs.Prelude.{ℕ, zero, suc, ◌+◌, ◌-◌, ◌<◌, List, [], ◌∷◌, ◌++◌, ◌&&◌, cond, length, get_or, take, drop, replicate, eqb, ltb}
+use Rattle.std.specs.Prelude.{Option, Some, None, ℕ, zero, suc, ◌+◌, ◌-◌, ◌<◌, List, [], ◌∷◌, ◌++◌, ◌&&◌, cond, length, get_or, take, drop, replicate, eqb, ltb}
 use Rattle.decimal.specs.declared.Field.{Field}
-use Rattle.decimal.specs.declared.Field.TheVariants.{Number, Wrong}
 use Rattle.csv_fields.specs.declared.Run.{Run}
-use Rattle.csv_fields.specs.declared.Run.TheVariants.{Fields, Broken}
 use Rattle.decimal.specs.Numeral.{tens, numeral, field_at}
 
 -- A comma and a number.
@@ -37,9 +35,9 @@ push x (parsed xs next) = parsed (x ∷ xs) next
 push x malformed = malformed
 
 -- What stands behind a field, if it is one.
-abbrev pub behind : Field → (ℕ → ℕ → Parsed) → Parsed
-behind (Number x next) rest = rest x next
-behind Wrong rest = malformed
+abbrev pub behind : Option Field → (ℕ → ℕ → Parsed) → Parsed
+behind (Some f) rest = rest f.value f.next
+behind None rest = malformed
 
 -- The k number fields from a position of a line.
 unfoldable pub fields_at : ℕ → List ℕ → ℕ → Parsed
@@ -60,12 +58,16 @@ abbrev pub largest_from : ℕ → List ℕ → ℕ
 largest_from m [] = m
 largest_from m (x ∷ xs) = largest_from (cond (ltb m x) x m) xs
 
--- What a first pass over fields tells of them.
-abbrev pub run_from : ℕ → Parsed → Run
-run_from m (parsed xs next) = Fields (largest_from m xs) next
-run_from m malformed = Broken
+-- The largest number of fields, and the position behind them.
+abbrev pub run : ℕ → ℕ → Option Run
+run largest next = Some (record { largest = largest; next = next })
 
-abbrev pub run_of : Parsed → Run
+-- What a first pass over fields tells of them.
+abbrev pub run_from : ℕ → Parsed → Option Run
+run_from m (parsed xs next) = run (largest_from m xs) next
+run_from m malformed = None
+
+abbrev pub run_of : Parsed → Option Run
 run_of o = run_from 0 o
 
 -- Every number of a list fits 32 bits.

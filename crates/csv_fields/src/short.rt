@@ -3,24 +3,18 @@ ghost use Rattle.std.specs.Prelude.{◌≡◌};
 ghost use Rattle.csv_fields.specs.Fields.{fields_at, run_of};
 
 use crate::Run;
-use decimal::Field;
 
 // One field: its number, which is told as the largest, and the position behind it.
-pub fn one_field(line: &[u8], at: usize) -> Run
+#[tactic(auto, using(crate::proofs::Single::one_none, crate::proofs::Single::one_number, crate::proofs::Passing::comma_short, crate::proofs::Passing::comma_none))]
+pub fn one_field(line: &[u8], at: usize) -> Option<Run>
     ensures { result ≡ run_of (fields_at 1 line.now at) }
 {
-    if line.len() <= at {
-        return Run::Broken; // the line has ended
+    if line.len() <= at || line[at] != b',' {
+        return None; // no comma
     }
-    if line[at] != b',' {
-        return Run::Broken; // no comma
-    }
-    let field = decimal::short_field_at(line, at + 1);
-    match field {
-        Field::Number { value, next } => Run::Fields {
-            largest: value,
-            next,
-        },
-        Field::Wrong => Run::Broken,
-    }
+    let field = decimal::short_field_at(line, at + 1)?;
+    Some(Run {
+        largest: field.value,
+        next: field.next,
+    })
 }

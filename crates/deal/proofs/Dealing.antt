@@ -23,12 +23,6 @@ use Rattle.deal.specs.Between.{row_tests}
 use Rattle.deal.specs.Deal.{deal_refusal_of, deal_rows_of}
 use Rattle.deal.proofs.Passed.{Dealt, dealt}
 
-pub row_checked : (g : Shape) (marks rows : List ℕ) (r c q6 q7 q8 q9 x y z : ℕ)
-    → q6 ≡ first (6 when no_row r ∷ []) → q7 ≡ first (7 when wrong_mark_in marks r raw ∷ []) → q8 ≡ first (8 when beyond c ∷ [])
-    → q9 ≡ first (8 when any_beyond (row_at (row_length g) rows r) ∷ []) → x ≡ or_else q8 q9 → y ≡ or_else q7 x → z ≡ or_else q6 y
-    → z ≡ first (row_tests g marks rows r c)
-row_checked g marks rows r c q6 q7 q8 q9 x y z e6 e7 e8 e9 ex ey ez = chained (row_tests g marks rows r c) tt z (cc)
-
 pub row_passed : (g : Shape) (marks rows : List ℕ) (r c : ℕ) → first (row_tests g marks rows r c) ≡ 0 → r ≤ last_row_at
 row_passed g marks rows r c z = ltb-false last_row_at r (all_fail (row_tests g marks rows r c) tt z).0
 

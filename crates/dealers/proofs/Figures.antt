@@ -1,12 +1,11 @@
 -- The bytes that the calls leave, in figures.
 use Prim.Native.Nat.{ℕ, zero, suc, ◌+◌, ◌*◌, ◌-◌, ◌≤◌, ◌<◌}
 use mathlib.Core.Path.{◌≡◌, refl, sym, ◌∙◌, ap}
-use mathlib.Core.Logic.{◌≢◌, ◌⊎◌, inl, inr}
-use mathlib.Core.List.{List, [], ◌∷◌, ◌++◌}
+use mathlib.Core.Logic.{◌⊎◌, inl, inr}
+use mathlib.Core.List.{List, [], ◌∷◌}
 use native.Mathlib.Omega.{arith}
 use lib.ListN.{length, get_or, replicate, length-append, length-set}
 use lib.Seq.{get_or-set_other}
-use Rattle.refusal.specs.Refusal.{outcome}
 use Rattle.refusal.proofs.Laws.{all_fail, equal}
 use Rattle.refusal.proofs.Endings.{accepted}
 use Rattle.decimal.specs.Numeral.{size_within, size}
@@ -18,7 +17,7 @@ use Rattle.dealers.specs.State.{state_length, place_bytes, place_at_of, new_stat
 use Rattle.dealers.specs.Calls.{place_tests, place_refusal_of, place_after_of, count_refusal, counted_state, turn_state}
 use Rattle.dealers.specs.Table.{byte}
 use Rattle.dealers.specs.Between.{Good, Dealer}
-use Rattle.dealers.specs.Figures.{NewBytes, PlacedBytes, PlacesBytes, LinesBytes, ServedBytes, TurnsBytes, SixteenBytes}
+use Rattle.dealers.specs.Figures.{NewBytes, PlacedBytes, PlacesBytes, LinesBytes, TurnsBytes, SixteenBytes}
 use Rattle.dealers.proofs.Placing.{place_dealer, place_few}
 use Rattle.dealers.proofs.Turns.{chosen_dealer, by_some, count_good}
 use Rattle.dealers.proofs.Kept.{length_over, over_before, over_at, over_behind, placed_length, line_long, line_bytes, served_long, served_last, served_own, untouched}

@@ -2,17 +2,15 @@
 use Prim.Native.Nat.{ℕ, zero, suc, ◌+◌, ◌*◌, ◌-◌, ◌≤◌, ◌<◌, min}
 use mathlib.Core.Path.{◌≡◌, refl, sym, ◌∙◌, ap}
 use mathlib.Core.Logic.{◌≢◌, ◌⊎◌, inl, inr}
-use mathlib.Core.Bool.{Bool, true, false, not, ◌||◌}
-use mathlib.Core.List.{List, [], ◌∷◌, ◌++◌}
+use mathlib.Core.Bool.{false}
+use mathlib.Core.List.{List, ◌++◌}
 use native.Mathlib.Nat.{eq-or-lt_of_le}
 use native.Mathlib.Decide.{ℕ_discrete, dec_le}
 use native.Mathlib.Omega.{arith}
-use borrow.Author.Tests.{lt-ltb, le-ltb}
-use lib.Dec.{ltb, eqb}
+use borrow.Author.Tests.{le-ltb}
 use lib.ListN.{length, get_or, set, take, drop, length-set, length-append, length-drop, length-take, get_or-append}
 use lib.Seq.{get_or-set_same, get_or-set_other, get_or-take, get_or-drop, get_or-append-add, length-take-le, ext_get_or, drop-set-lt, drop_at, take-append_seam}
 use Rattle.csv_fields.specs.Fields.{overwrite}
-use Rattle.refusal.specs.Conditions.{outside}
 use Rattle.dealers.specs.State.{state_length, dealer_count, place_bytes, place_at_of, length_in_of, line_in, last_served, overlong, bad_state, placed, served}
 use Rattle.dealers.specs.Between.{Good, Dealer}
 use Rattle.dealers.specs.Fairness.{SamePlace}

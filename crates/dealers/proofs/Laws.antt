@@ -24,11 +24,11 @@ use Rattle.forms.specs.Lines.{Message}
 use Rattle.forms.specs.Forms.{form_of, message, line_tests}
 use Rattle.deal.specs.Deal.{deal_refusal_of, deal_answer, deal_rows_of}
 use Rattle.dealers.specs.State.{overlong, bad_state, new_state_of, chosen, line_in, served, placed}
-use Rattle.dealers.specs.Calls.{new_state_refusal, state_tests, place_refusal_of, count_refusal, count_tests, taken_tests, taken_refusal, said_row, said_number, taken_answer, taken_rows}
+use Rattle.dealers.specs.Calls.{new_state_refusal, state_tests, place_refusal_of, count_refusal, count_tests, taken_refusal, said_row, said_number, taken_answer, taken_rows}
 use Rattle.dealers.specs.Calls.{counted_answer, counted_rows, counted_state, whose, turn_answer, turn_rows, turn_state}
 use Rattle.dealers.specs.Table.{byte, wrong_state, SoundState, line_table, count_table, taken_table, turn_table, read_here}
 use Rattle.dealers.specs.Between.{Good}
-use Rattle.dealers.specs.Claims.{NewStateLawful, NewStatesLawful, PlaceLawful, TurnLawful, TurnsLawful, SameEverywhere}
+use Rattle.dealers.specs.Claims.{NewStatesLawful, PlaceLawful, TurnsLawful, SameEverywhere}
 
 -- ---- 16 in figures
 

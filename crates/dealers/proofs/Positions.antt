@@ -1,42 +1,22 @@
 -- The places of a state: where they stand, and how long their lines are.
-use Prim.Native.Nat.{ℕ, zero, suc, ◌+◌, ◌*◌, ◌-◌, ◌≤◌, ◌<◌}
+use Prim.Native.Nat.{ℕ, zero, suc, ◌+◌, ◌-◌, ◌≤◌, ◌<◌}
 use mathlib.Core.Path.{◌≡◌, refl, sym, ◌∙◌, ap}
 use mathlib.Core.Bool.{Bool, true, false, ◌||◌}
-use mathlib.Core.List.{List, ◌∷◌}
-use mathlib.Core.Logic.{◌⊎◌, inl, inr}
+use mathlib.Core.List.{List}
+use mathlib.Core.Logic.{inl, inr}
 use native.Mathlib.Nat.{eq-or-lt_of_le}
 use native.Mathlib.Omega.{arith}
-use borrow.Author.Tests.{lt-ltb, le-ltb, ltb-true, ltb-false, eq-eqb, ne_eqb}
-use mir.Syntax.{w8, w64}
-use mir.Val.{Fits}
+use borrow.Author.Tests.{lt-ltb, le-ltb, ltb-true, ltb-false}
 use lib.Dec.{ltb}
-use lib.ListN.{length, get_or, set, replicate}
+use lib.ListN.{length}
 use Rattle.refusal.specs.Refusal.{first}
 use Rattle.refusal.proofs.Laws.{or_false, inside, all_fail, equal}
 use Rattle.refusal.specs.Conditions.{outside}
-use Rattle.dealers.specs.State.{state_length, dealer_count, place_bytes, place_at_of, length_in_of, last_served, next, new_state_of, overlong, bad_state, served}
+use Rattle.dealers.specs.State.{state_length, dealer_count, place_bytes, length_in_of, last_served, next, overlong, bad_state}
 use Rattle.dealers.specs.Calls.{state_tests}
 use Rattle.dealers.specs.Between.{Good, Dealer}
 
--- ---- where a place stands
-
-module _ (state : List ℕ) (d at : ℕ) (e : at ≡ place_at_of d) where
-  pub length_there : (v : ℕ) → v ≡ get_or state at 0 → v ≡ length_in_of state d
-  length_there v q = q ∙ ap (λ (k : ℕ). get_or state k 0) e
-
-  pub place_below : Dealer d → length state ≡ state_length → at < length state
-  place_below h l = omega (arith, h.low, h.high)
-
-  pub served_is : set (set state 0 d) at 0 ≡ served state d
-  served_is = rw e
-
 -- ---- going round
-
-pub next_more : (d : ℕ) → d < dealer_count → d + 1 ≡ next d
-next_more d h = rw (lt-ltb d dealer_count h)
-
-pub next_round : (d : ℕ) → dealer_count ≤ d → 1 ≡ next d
-next_round d h = rw (le-ltb d dealer_count h)
 
 pub next_dealer_lem : (d : ℕ) → Dealer d → Dealer (next d)
 next_dealer_lem d h = go (ltb d dealer_count) refl
@@ -48,11 +28,6 @@ next_dealer_lem d h = go (ltb d dealer_count) refl
         less = ltb-true d dealer_count e
     go false e = rw e (record { low = omega arith; high = omega arith })
 
--- ---- a new state
-
-pub begun : (l m : List ℕ) → length l ≡ state_length → m ≡ replicate (length l) 0 → set m 0 dealer_count ≡ new_state_of
-begun l m h e = rw (e, h)
-
 -- ---- overlong places
 
 -- those before dealer d's are not
@@ -60,9 +35,6 @@ pub record Overseen (state : List ℕ) (d : ℕ) : Type 0 where
   pub low : 1 ≤ d
   pub high : d ≤ dealer_count + 1
   pub same : overlong (dealer_count + 1 - d) d state ≡ overlong dealer_count 1 state
-
-pub over_start : (state : List ℕ) → Overseen state 1
-over_start state = record { low = omega arith; high = omega arith; same = refl }
 
 module _ (state : List ℕ) (d : ℕ) (i : Overseen state d) where
   pub over_end : dealer_count < d → false ≡ overlong dealer_count 1 state
@@ -102,19 +74,6 @@ small_from (suc k) a state e d lo hi =
 
 -- ---- 16
 
-module _ (state : List ℕ) (v : ℕ) (e : v ≡ get_or state 0 0) where
-  pub bad_low : v < 1 → true ≡ bad_state state
-  unfolding bad_state
-  bad_low h = rw (← e, lt-ltb v 1 h)
-
-  pub bad_high : 1 ≤ v → dealer_count < v → true ≡ bad_state state
-  unfolding bad_state
-  bad_high l h = rw (← e, le-ltb v 1 l, lt-ltb dealer_count v h)
-
-  pub bad_places : 1 ≤ v → v ≤ dealer_count → (b : Bool) → b ≡ overlong dealer_count 1 state → b ≡ bad_state state
-  unfolding bad_state
-  bad_places l h b q = rw (← e, le-ltb v 1 l, le-ltb dealer_count v h) q
-
 module _ (state : List ℕ) (g : Good state) where
   parts : (outside 1 dealer_count (last_served state) ≡ false) × (overlong dealer_count 1 state ≡ false)
   unfolding bad_state
@@ -128,22 +87,7 @@ module _ (state : List ℕ) (g : Good state) where
 
 -- ---- 5 and 16
 
-module _ (state : List ℕ) where
-  pub state_five : (length state ≡ state_length → ⊥) → 5 ≡ first (state_tests state)
-  state_five n = rw (ne_eqb (length state) state_length n)
-
-  module _ (l : length state ≡ state_length) (b : Bool) (e : b ≡ bad_state state) where
-    pub state_bad : b ≡ true → 16 ≡ first (state_tests state)
-    state_bad t = rw (eq-eqb (length state) state_length l, ← e, t)
-
-    pub state_fine : b ≡ false → 0 ≡ first (state_tests state)
-    state_fine f = rw (eq-eqb (length state) state_length l, ← e, f)
-
-  module _ (w : ℕ) (e : w ≡ first (state_tests state)) (z : w ≡ 0) where
-    pub state_good : Good state
-    state_good =
-        let h = all_fail (state_tests state) tt (sym e ∙ z) in
-        record { long = equal (length state) state_length h.0; fine = h.1.0 }
-
-    pub state_long : length state ≡ state_length
-    state_long = state_good.long
+pub state_good : (state : List ℕ) (w : ℕ) → w ≡ first (state_tests state) → w ≡ 0 → Good state
+state_good state w e z =
+    let h = all_fail (state_tests state) tt (sym e ∙ z) in
+    record { long = equal (length state) state_length h.0; fine = h.1.0 }

@@ -7,15 +7,14 @@ use mathlib.Core.List.{List}
 use native.Mathlib.Nat.{eq-or-lt_of_le}
 use native.Mathlib.Omega.{arith}
 use borrow.Author.Tests.{lt-ltb, le-ltb, eq-eqb}
-use lib.Dec.{eqb, ltb}
-use lib.ListN.{length}
+use lib.Dec.{ltb}
 use Rattle.refusal.proofs.Laws.{equal}
 use Rattle.dealers.specs.State.{dealer_count, length_in_of, last_served, waits, next, first_after, first_waiting, chosen}
 use Rattle.dealers.specs.Table.{byte}
 use Rattle.dealers.specs.Between.{Good, Dealer}
-use Rattle.dealers.specs.Figures.{nth_after, FirstWaiting, WhoIsServed, AlwaysServed}
+use Rattle.dealers.specs.Figures.{nth_after, FirstWaiting, AlwaysServed}
 use Rattle.dealers.proofs.Positions.{next_dealer_lem, last_in}
-use Rattle.dealers.proofs.Fair.{ahead, upward, Ahead, reach}
+use Rattle.dealers.proofs.Fair.{ahead, upward, reach}
 use Rattle.dealers.proofs.Laws.{good_is}
 
 -- ---- k dealers on, in figures

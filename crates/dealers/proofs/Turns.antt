@@ -4,8 +4,6 @@ use mathlib.Core.Path.{◌≡◌, refl, sym, ◌∙◌, ap}
 use mathlib.Core.Bool.{Bool, true, false}
 use mathlib.Core.List.{List, ◌++◌}
 use native.Mathlib.Omega.{arith}
-use mir.Syntax.{w64}
-use mir.Val.{Fits}
 use lib.ListN.{length, take, drop}
 use Rattle.refusal.specs.Refusal.{first, or_else, outcome}
 use Rattle.refusal.proofs.Laws.{first_join, all_fail, not_refused}
@@ -15,10 +13,9 @@ use Rattle.session.specs.declared.Answer.{Answer}
 use Rattle.session.specs.Sessions.{holding}
 use Rattle.session.specs.Checks.{frame_tests}
 use Rattle.deal.specs.Deal.{deal_answer, deal_rows_of}
-use Rattle.dealers.specs.declared.Said.{Said}
 use Rattle.dealers.specs.State.{dealer_count, place_at_of, length_in_of, line_in, waits, next, last_served, first_after, first_waiting, chosen}
 use Rattle.dealers.specs.Calls.{state_tests, count_refusal, taken_refusal, said_row, said_number, taken_answer, taken_rows, whose}
-use Rattle.dealers.specs.Between.{Good, Dealer, said_by_of}
+use Rattle.dealers.specs.Between.{Good, Dealer, Heard, said_by_of}
 use Rattle.dealers.proofs.Positions.{line_small, last_in, next_dealer_lem, state_good}
 
 -- ---- the line in its place
@@ -27,21 +24,18 @@ module _ (state : List ℕ) (d at v : ℕ) (g : Good state) (h : Dealer d) (e : 
   pub part_in : at + 1 + v ≤ length state
   part_in = omega (arith, line_small state g d h, g.long, h.low, h.high)
 
-  pub part_fits : Fits w64 (at + 1 + v)
-  part_fits = record { fits = omega (arith, part_in, g.long) }
-
-  pub part_is : (r : Said) → r ≡ said_by_of (take (at + 1 + v - (at + 1)) (drop (at + 1) state)) → r ≡ said_by_of (line_in state d)
+  pub part_is : (r : Heard) → r ≡ said_by_of (take (at + 1 + v - (at + 1)) (drop (at + 1) state)) → r ≡ said_by_of (line_in state d)
   part_is r p =
       let n : at + 1 + v - (at + 1) ≡ length_in_of state d = omega (arith, q) in
       p ∙ ap (λ (k : ℕ). said_by_of (take k (drop (at + 1) state))) n ∙ ap (λ (k : ℕ). said_by_of (take (length_in_of state d) (drop (k + 1) state))) e
 
 -- ---- what it says, dealt
 
-module _ (s : Session) (rows line : List ℕ) (m : Said) (e : m ≡ said_by_of line) where
-  abbrev said_answer : Said → Answer
+module _ (s : Session) (rows line : List ℕ) (m : Heard) (e : m ≡ said_by_of line) where
+  abbrev said_answer : Heard → Answer
   said_answer m = outcome m.refusal (deal_answer s rows m.row m.c) (holding m.refusal 0 s)
 
-  abbrev said_rows : Said → List ℕ
+  abbrev said_rows : Heard → List ℕ
   said_rows m = outcome m.refusal (deal_rows_of s rows m.row m.c) rows
 
   pub as_answer : said_answer m ≡ taken_answer s rows line

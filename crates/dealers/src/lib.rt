@@ -4,6 +4,7 @@
 pub mod places;
 
 ghost use Rattle.std.specs.Prelude.{◌≡◌, length};
+ghost use Rattle.refusal.specs.Numbers.{refused};
 ghost use Rattle.refusal.specs.Conditions.{beyond};
 ghost use Rattle.session.specs.Between.{Sized, Allows};
 ghost use Rattle.forms.specs.Forms.{out_of_range_of};
@@ -11,83 +12,59 @@ ghost use Rattle.forms.specs.Between.{Headed};
 ghost use Rattle.lines.specs.Reading.{limit_of_of};
 ghost use Rattle.dealers.specs.State.{line_in, served};
 ghost use Rattle.dealers.specs.Calls.{new_state_refusal, new_state_after, place_refusal_of, place_after_of, turn_answer, turn_rows, turn_state};
-ghost use Rattle.dealers.specs.Between.{Good, Dealer, said_by_of};
-ghost use Rattle.dealers.specs.Turning.{none_dealt_of, said_dealt, said_rows, turn_dealt, turn_dealt_rows, turn_dealt_state, answer_by};
+ghost use Rattle.dealers.specs.Between.{Good, Dealer, heard, said_by_of};
+ghost use Rattle.dealers.specs.Turning.{dealt_as, RowDealt, line_dealt, line_rows, turn_dealt, turn_dealt_rows, turn_dealt_state, answer_by};
 
-use csv_fields::Run;
+use refusal::Refusal;
 use session::{Answer, Session};
-use shape::Shape;
+use shape::{Mark, Shape};
 
-// What a line taken says: the row and the number of a `D`, or its refusal.
+// What a line taken says: the row and the number of a `D`.
 #[derive(Clone, Copy)]
 pub struct Said {
-    pub refusal: u8,
     pub row: usize,
     pub c: u32,
 }
 
-// What a turn comes to: its refusal, and the row that is then held, 96 for none.
-#[derive(Clone, Copy)]
-pub struct Dealt {
-    pub refusal: u8,
-    pub row: usize,
-}
-
 // A new state: 8 as the last served, and no line waiting.
-pub fn new_state(state: &mut [u8]) -> u8
-    ensures value { result ≡ new_state_refusal state.old }
+#[tactic(auto, unfolding(refusal::specs::Refusal::outcome))]
+pub fn new_state(state: &mut [u8]) -> Result<(), Refusal>
+    ensures value { refused result ≡ new_state_refusal state.old }
     ensures state_after { state.new ≡ new_state_after state.old }
 {
     if state.len() != places::STATE_LEN {
-        return 5;
+        return Err(Refusal::BadLength);
     }
     places::begin(state);
-    0
+    Ok(())
 }
 
-fn place_refusal(state: &[u8], dealer: usize, len: usize) -> u8
-    ensures { result ≡ place_refusal_of state.now dealer len }
+#[tactic(auto, using(refusal::proofs::Checks::not_zero, crate::proofs::Placing::place_stopped, crate::proofs::Placing::place_on))]
+fn place_checks(state: &[u8], dealer: usize, len: usize) -> Result<(), Refusal>
+    ensures { refused result ≡ place_refusal_of state.now dealer len }
 {
-    let wrong = places::refusal(state);
-    if wrong != 0 {
-        return wrong;
-    }
-    if dealer < 1 {
-        return 16;
-    }
-    if places::DEALERS < dealer {
-        return 16;
+    places::checks(state)?;
+    if dealer < 1 || places::DEALERS < dealer {
+        return Err(Refusal::BadDealer);
     }
     if places::length_in(state, dealer) != 0 {
-        return 17;
+        return Err(Refusal::PlaceFilled);
     }
-    if len < 1 {
-        return 10;
+    if len < 1 || places::PLACE_LEN < len {
+        return Err(Refusal::MalformedLine);
     }
-    if places::PLACE_LEN < len { 10 } else { 0 }
+    Ok(())
 }
 
 // A dealer's line is placed, to wait for its turn.
-pub fn place(state: &mut [u8], dealer: usize, line: &[u8]) -> u8
-    ensures value { result ≡ place_refusal_of state.old dealer (length line.now) }
+#[tactic(auto, using(refusal::proofs::Checks::not_zero, crate::proofs::Placing::place_state, crate::proofs::Placing::place_dealer, crate::proofs::Placing::place_some, crate::proofs::Placing::place_few), unfolding(refusal::specs::Refusal::outcome))]
+pub fn place(state: &mut [u8], dealer: usize, line: &[u8]) -> Result<(), Refusal>
+    ensures value { refused result ≡ place_refusal_of state.old dealer (length line.now) }
     ensures state_after { state.new ≡ place_after_of state.old dealer line.now }
 {
-    let refusal = place_refusal(state, dealer, line.len());
-    if refusal != 0 {
-        return refusal;
-    }
+    place_checks(state, dealer, line.len())?;
     places::lay(state, dealer, line);
-    0
-}
-
-fn not_said(refusal: u8) -> Said
-    ensures { result ≡ record { refusal = refusal; row = 0; c = 0 } }
-{
-    Said {
-        refusal,
-        row: 0,
-        c: 0,
-    }
+    Ok(())
 }
 
 // What a deal's number stays below, if its row is in range: p. No number is below 0.
@@ -102,49 +79,40 @@ fn limit_for(row: u64) -> u64
 }
 
 // The number of a deal, and the line's end behind it.
-fn read_number(line: &[u8], at: usize, row: u64) -> Said
+#[tactic(auto, using(crate::proofs::Reading::limit_fits, crate::proofs::Reading::number_broken, crate::proofs::Reading::number_beyond, crate::proofs::Reading::number_read))]
+fn read_number(line: &[u8], at: usize, row: u64) -> Result<Said, Refusal>
     requires { Headed 2 line.now 68 row 0 at 1 }
-    ensures { result ≡ said_by_of line.now }
+    ensures { heard result ≡ said_by_of line.now }
 {
     let mut number = [0u32; 1];
     let limit = limit_for(row);
-    let run = forms::read_fields(line, at, 0, limit, &mut number);
-    match run {
-        Run::Fields { largest, next: _ } => {
-            if limit <= largest {
-                return not_said(11);
-            }
-            Said {
-                refusal: 0,
-                row: row as usize,
-                c: number[0],
-            }
-        }
-        Run::Broken => not_said(10),
+    let run = forms::read_fields(line, at, 0, limit, &mut number).ok_or(Refusal::MalformedLine)?;
+    if limit <= run.largest {
+        return Err(Refusal::LineOutOfRange);
     }
+    Ok(Said {
+        row: row as usize,
+        c: number[0],
+    })
 }
 
 // A `D` line is the same at every station: its two fields are read, and `lines::read` keeps its one caller.
-fn read_deal(line: &[u8]) -> Said
-    ensures { result ≡ said_by_of line.now }
+#[tactic(auto, using(crate::proofs::Reading::not_deal, crate::proofs::Reading::no_line, crate::proofs::Reading::no_row, crate::proofs::Reading::row_read))]
+fn read_deal(line: &[u8]) -> Result<Said, Refusal>
+    ensures { heard result ≡ said_by_of line.now }
 {
-    if line.len() < 1 {
-        return not_said(10);
+    if line.len() < 1 || line[0] != b'D' {
+        return Err(Refusal::MalformedLine);
     }
-    if line[0] != b'D' {
-        return not_said(10);
-    }
-    let row = csv_fields::short::one_field(line, 1);
-    match row {
-        Run::Fields { largest, next } => read_number(line, next, largest),
-        Run::Broken => not_said(10),
-    }
+    let row = csv_fields::short::one_field(line, 1).ok_or(Refusal::MalformedLine)?;
+    read_number(line, row.next, row.largest)
 }
 
 // What a dealer's waiting line says.
-fn said_by(state: &[u8], dealer: usize) -> Said
+#[tactic(auto, using(crate::proofs::Turns::part_in, crate::proofs::Turns::part_is))]
+fn said_by(state: &[u8], dealer: usize) -> Result<Said, Refusal>
     requires { Dealer dealer × Good state.now }
-    ensures { result ≡ said_by_of (line_in state.now dealer) }
+    ensures { heard result ≡ said_by_of (line_in state.now dealer) }
 {
     let from = places::place_at(dealer) + 1;
     let end = from + places::length_in(state, dealer);
@@ -152,9 +120,9 @@ fn said_by(state: &[u8], dealer: usize) -> Said
 }
 
 // A dealer's line is taken, whatever it says.
-fn take_line(state: &mut [u8], dealer: usize) -> Said
+fn take_line(state: &mut [u8], dealer: usize) -> Result<Said, Refusal>
     requires { Dealer dealer × Good state.old }
-    ensures value { result ≡ said_by_of (line_in state.old dealer) }
+    ensures value { heard result ≡ said_by_of (line_in state.old dealer) }
     ensures state_after { state.new ≡ served state.old dealer }
 {
     let said = said_by(state, dealer);
@@ -162,78 +130,74 @@ fn take_line(state: &mut [u8], dealer: usize) -> Said
     said
 }
 
-fn none_dealt(refusal: u8) -> Dealt
-    ensures { result ≡ none_dealt_of refusal }
-{
-    Dealt {
-        refusal,
-        row: shape::ROWS,
-    }
-}
-
-// What a line says, dealt where nothing refuses it.
-fn deal_said(shape: Shape, marks: &[u8], rows: &mut [u32], said: Said) -> Dealt
+// What a line says, dealt where nothing refuses it: the row.
+#[tactic(auto, using(crate::proofs::Turning::said_row_in, crate::proofs::Turning::said_in), unfolding(refusal::specs::Refusal::outcome))]
+fn deal_said(
+    shape: Shape,
+    marks: &[u8],
+    rows: &mut [u32],
+    said: Said,
+) -> Result<Option<usize>, Refusal>
     requires { Sized shape rows.old }
-    ensures value { result ≡ said_dealt shape marks.now rows.old said }
-    ensures rows_after { rows.new ≡ said_rows shape marks.now rows.old said }
+    ensures value { dealt_as result ≡ line_dealt shape marks.now rows.old said.row said.c }
+    ensures row_is { RowDealt result }
+    ensures rows_after { rows.new ≡ line_rows shape marks.now rows.old said.row said.c }
 {
-    if said.refusal != 0 {
-        return none_dealt(said.refusal);
-    }
-    let refusal = deal::row_refusal(shape, marks, rows, said.row, said.c);
-    if refusal != 0 {
-        return none_dealt(refusal);
-    }
+    deal::row_checks(shape, marks, rows, said.row, said.c)?;
     sums::add_to_sums(shape, rows, said.row, said.c);
-    Dealt {
-        refusal: 0,
-        row: said.row,
-    }
+    Ok(Some(said.row))
 }
 
-// One line is taken, read and dealt, in a turn with this refusal of session, rows and state. The session is not handed over: a call that
-// writes would keep a copy of it.
-fn take_turn(shape: Shape, marks: &[u8], rows: &mut [u32], state: &mut [u8], refusal: u8) -> Dealt
-    requires { Allows refusal (Sized shape rows.old) × Allows refusal (Good state.old) }
-    ensures value { result ≡ turn_dealt shape marks.now rows.old state.old refusal }
-    ensures rows_after { rows.new ≡ turn_dealt_rows shape marks.now rows.old state.old refusal }
-    ensures state_after { state.new ≡ turn_dealt_state state.old refusal }
+// One line is taken, read and dealt, in a turn with this refusal of session, rows and state: the row that is then held, if a line waits.
+// The session is not handed over: a call that writes would keep a copy of it.
+#[tactic(auto, using(crate::proofs::Turning::taken_state), unfolding(refusal::specs::Refusal::outcome))]
+fn take_turn(
+    shape: Shape,
+    marks: &[u8],
+    rows: &mut [u32],
+    state: &mut [u8],
+    checked: Result<(), Refusal>,
+) -> Result<Option<usize>, Refusal>
+    requires { Allows (refused checked) (Sized shape rows.old) × Allows (refused checked) (Good state.old) }
+    ensures value { dealt_as result ≡ turn_dealt shape marks.now rows.old state.old (refused checked) }
+    ensures row_is { RowDealt result }
+    ensures rows_after { rows.new ≡ turn_dealt_rows shape marks.now rows.old state.old (refused checked) }
+    ensures state_after { state.new ≡ turn_dealt_state state.old (refused checked) }
 {
-    if refusal != 0 {
-        return none_dealt(refusal);
-    }
-    let dealer = places::choose(state);
-    if dealer == 0 {
-        return none_dealt(0);
-    }
-    let said = take_line(state, dealer);
+    checked?;
+    let Some(dealer) = places::choose(state) else {
+        return Ok(None);
+    };
+    let said = take_line(state, dealer)?;
     deal_said(shape, marks, rows, said)
 }
 
 // The one end of a turn, for every outcome: where ends meet, the session would be copied.
-fn answer_turn(session: Session, dealt: Dealt) -> Answer
-    ensures { result ≡ answer_by session dealt }
+fn answer_turn(session: Session, dealt: Result<Option<usize>, Refusal>) -> Answer
+    requires { RowDealt dealt }
+    ensures { result ≡ answer_by session (dealt_as dealt) }
 {
     let mut marks = session.marks;
-    let row = dealt.row;
-    if row < shape::ROWS {
-        marks[row] = shape::HELD;
+    if let Ok(Some(row)) = dealt {
+        marks[row] = Mark::Held as u8;
     }
     Answer {
-        refusal: dealt.refusal,
+        refusal: refusal::number_of(dealt),
         value: 0,
         session: Session { marks, ..session },
     }
 }
 
 // A turn: one line is taken, read and dealt.
+#[tactic(auto, using(crate::proofs::Turning::turn_sized, crate::proofs::Turning::turn_good))]
 pub fn turn(session: Session, rows: &mut [u32], state: &mut [u8]) -> Answer
     ensures value { result ≡ turn_answer session rows.old state.old }
     ensures rows_after { rows.new ≡ turn_rows session rows.old state.old }
     ensures state_after { state.new ≡ turn_state session rows.old state.old }
 {
-    let refusal = refusal::or_else(session.frame(rows), places::refusal(state));
+    // The marks are copied first: behind the checks more of the session would be copied with them.
     let marks = session.marks;
-    let dealt = take_turn(session.shape(), &marks, rows, state, refusal);
+    let checked = session.frame(rows).and(places::checks(state));
+    let dealt = take_turn(session.shape(), &marks, rows, state, checked);
     answer_turn(session, dealt)
 }

@@ -1,10 +1,13 @@
 // The lent state: the last dealer, then for each dealer's place a length, 0 when free, and the 16 bytes.
 ghost use Rattle.std.specs.Prelude.{◌≡◌, ◌+◌, ◌≤◌, length};
 ghost use Rattle.refusal.specs.Refusal.{first};
+ghost use Rattle.refusal.specs.Numbers.{refused};
 ghost use Rattle.csv_fields.specs.Fields.{overwrite};
 ghost use Rattle.dealers.specs.State.{state_length, new_state_of, place_at_of, length_in_of, next, bad_state, overlong, chosen, placed, served};
 ghost use Rattle.dealers.specs.Calls.{state_tests};
-ghost use Rattle.dealers.specs.Between.{Good, Dealer};
+ghost use Rattle.dealers.specs.Between.{Good, Dealer, Choice};
+
+use refusal::Refusal;
 
 pub const STATE_LEN: usize = 137;
 
@@ -20,59 +23,50 @@ pub fn place_at(dealer: usize) -> usize
     17 * dealer - 16
 }
 
-fn wide(x: u8) -> usize
-    ensures { result ≡ x }
-{
-    x as usize
-}
-
 // The length of a dealer's waiting line, 0 where none waits.
 pub fn length_in(state: &[u8], dealer: usize) -> usize
     requires { Dealer dealer × (length state.now ≡ state_length) }
     ensures { result ≡ length_in_of state.now dealer }
 {
     let at = place_at(dealer);
-    wide(state[at])
+    usize::from(state[at])
 }
 
 // Whether a place has over 16 bytes.
+#[tactic(auto, using(crate::proofs::Positions::over_passed, crate::proofs::Positions::over_end))]
 fn any_overlong(state: &[u8]) -> bool
     requires { length state.now ≡ state_length }
     ensures { result ≡ overlong 8 1 state.now }
 {
-    let mut dealer = 1;
-    while dealer <= DEALERS {
+    for dealer in 1..=DEALERS {
         if PLACE_LEN < length_in(state, dealer) {
             return true;
         }
-        dealer += 1;
     }
     false
 }
 
 // A last dealer outside 1..8, or a place over 16 bytes.
+#[tactic(auto, unfolding(crate::specs::State::bad_state))]
 fn is_bad(state: &[u8]) -> bool
     requires { length state.now ≡ state_length }
     ensures { result ≡ bad_state state.now }
 {
-    let last = wide(state[0]);
-    if last < 1 {
-        return true;
-    }
-    if DEALERS < last {
-        return true;
-    }
-    any_overlong(state)
+    let last = usize::from(state[0]);
+    last < 1 || DEALERS < last || any_overlong(state)
 }
 
 // 5 and 16, of a state.
-pub fn refusal(state: &[u8]) -> u8
-    ensures { result ≡ first (state_tests state.now) }
+pub fn checks(state: &[u8]) -> Result<(), Refusal>
+    ensures { refused result ≡ first (state_tests state.now) }
 {
     if state.len() != STATE_LEN {
-        return 5;
+        return Err(Refusal::BadLength);
     }
-    if is_bad(state) { 16 } else { 0 }
+    if is_bad(state) {
+        return Err(Refusal::BadDealer);
+    }
+    Ok(())
 }
 
 // 8 as the last served, then zeros.
@@ -80,20 +74,8 @@ pub fn begin(state: &mut [u8])
     requires { length state.old ≡ state_length }
     ensures { state.new ≡ new_state_of }
 {
-    for i in 0..state.len() {
-        state[i] = 0;
-    }
+    state.fill(0);
     state[0] = 8;
-}
-
-// The bytes of `from`, into `to`.
-fn copy(from: &[u8], to: &mut [u8])
-    requires { length from.now ≡ length to.old }
-    ensures { to.new ≡ from.now }
-{
-    for i in 0..from.len() {
-        to[i] = from[i];
-    }
 }
 
 // Bytes, over a state from a position on.
@@ -102,7 +84,7 @@ fn lay_at(state: &mut [u8], from: usize, line: &[u8])
     ensures { state.new ≡ overwrite from line.now state.old }
 {
     let end = from + line.len();
-    copy(line, &mut state[from..end]);
+    lists::copy(line, &mut state[from..end]);
 }
 
 // A line, into a dealer's place.
@@ -131,19 +113,18 @@ fn next_dealer(dealer: usize) -> usize
     if dealer < DEALERS { dealer + 1 } else { 1 }
 }
 
-// The first with a line waiting, from the dealer after the one last served, going round; 0 where no line waits.
-pub fn choose(state: &[u8]) -> usize
+// The first with a line waiting, from the dealer after the one last served, going round.
+#[tactic(auto, using(crate::proofs::Choosing::seek_found, crate::proofs::Choosing::seek_on, crate::proofs::Choosing::seek_end))]
+pub fn choose(state: &[u8]) -> Option<usize>
     requires { Good state.now }
-    ensures { result ≡ chosen state.now }
+    ensures { Choice state.now result }
 {
-    let mut dealer = wide(state[0]);
-    let mut left: usize = 8;
-    while 0 < left {
+    let mut dealer = usize::from(state[0]);
+    for turn in 0..DEALERS {
         dealer = next_dealer(dealer);
         if length_in(state, dealer) != 0 {
-            return dealer;
+            return Some(dealer);
         }
-        left -= 1;
     }
-    0
+    None
 }

@@ -1,17 +1,19 @@
 -- Eight bytes in one number: the test that each is a digit, and the bytes of a line that they are.
-use Prim.Native.Nat.{ℕ, zero, suc, ◌+◌, ◌*◌, ◌/◌, ◌%◌, ◌≤◌, ◌<◌, ◌^◌}
+use Prim.Native.Nat.{ℕ, zero, suc, ◌+◌, ◌-◌, ◌*◌, ◌/◌, ◌%◌, ◌≤◌, ◌<◌, ◌^◌}
 use mathlib.Core.Path.{◌≡◌, refl, ap, sym, ◌∙◌}
-use mathlib.Core.List.{List, [], ◌∷◌, ◌++◌}
+use mathlib.Core.List.{List}
 use mathlib.Core.Bool.{Bool, true, false}
 use native.Mathlib.Omega.{arith}
-use native.Mathlib.Numerals.{add-one}
-use borrow.Author.Tests.{eqb-true}
+use borrow.Author.Tests.{eqb-true, ltb-true, ltb-false}
 use mir.Syntax.{w64}
 use mir.Val.{Fits}
-use lib.ListN.{length, get_or, take, drop}
-use lib.Seq.{drop-cons}
-use lib.Dec.{eqb}
+use lib.ListN.{length, get_or, take, drop, length-drop, get_or-eq_default}
+use lib.Seq.{length-take-le, get_or-drop, get_or-take}
+use lib.Dec.{eqb, ltb}
 use lib.Bits.{bit_and, and_block, and_high}
+use native.Mathlib.Nat.{div-div-eq-div-mul}
+use Rattle.std.specs.Int.{to_le_bytes, from_le_bytes}
+use Rattle.std.proofs.lemmas.Nat.{le_bytes_8}
 use Rattle.decimal.specs.Between.{Digits, DigitsIf, bytes_of}
 
 -- a byte, k times
@@ -123,53 +125,31 @@ pub told_digits : (r : Bool) (ds : List ℕ) → DigitsIf r ds → r ≡ true �
 told_digits r ds h e = rw e at h
 
 -- ---- the bytes of a word
-module _ (a b c d v x y z : ℕ) (ha : a < 256) (hb : b < 256) (hc : c < 256) (hd : d < 256) (ev : v ≡ d) (ex : x ≡ c) (ey : y ≡ b) (ez : z ≡ a) where
-  pub four_small : v * 16777216 + x * 65536 + y * 256 + z < 4294967296
-  four_small = omega arith
-
-  pub four_bytes : bytes_of 4 (v * 16777216 + x * 65536 + y * 256 + z) ≡ a ∷ b ∷ c ∷ d ∷ []
-  unfolding bytes_of
-  four_bytes =
-      let w : ℕ = d * 16777216 + c * 65536 + b * 256 + a in
-      let q₁ : w / 256 ≡ d * 65536 + c * 256 + b = omega arith in
-      let q₂ : (d * 65536 + c * 256 + b) / 256 ≡ d * 256 + c = omega arith in
-      let q₃ : (d * 256 + c) / 256 ≡ d = omega arith in
-      let r₀ : w % 256 ≡ a = omega arith in
-      let r₁ : (d * 65536 + c * 256 + b) % 256 ≡ b = omega arith in
-      let r₂ : (d * 256 + c) % 256 ≡ c = omega arith in
-      let r₃ : d % 256 ≡ d = omega arith in
-      rw (ev, ex, ey, ez, q₁, q₂, q₃, r₀, r₁, r₂, r₃)
-
-two_words : (h l : ℕ) → l < 4294967296 → bytes_of 8 (h * 4294967296 + l) ≡ bytes_of 4 l ++ bytes_of 4 h
+bytes_le : (x : ℕ) → to_le_bytes w64 x ≡ bytes_of 8 x
 unfolding bytes_of
-two_words h l b =
-    let q₁ : (h * 4294967296 + l) / 256 ≡ h * 16777216 + l / 256 = omega arith in
-    let q₂ : (h * 16777216 + l / 256) / 256 ≡ h * 65536 + l / 256 / 256 = omega arith in
-    let q₃ : (h * 65536 + l / 256 / 256) / 256 ≡ h * 256 + l / 256 / 256 / 256 = omega arith in
-    let q₄ : (h * 256 + l / 256 / 256 / 256) / 256 ≡ h = omega arith in
-    let r₀ : (h * 4294967296 + l) % 256 ≡ l % 256 = omega arith in
-    let r₁ : (h * 16777216 + l / 256) % 256 ≡ l / 256 % 256 = omega arith in
-    let r₂ : (h * 65536 + l / 256 / 256) % 256 ≡ l / 256 / 256 % 256 = omega arith in
-    let r₃ : (h * 256 + l / 256 / 256 / 256) % 256 ≡ l / 256 / 256 / 256 % 256 = omega arith in
-    rw (q₁, q₂, q₃, q₄, r₀, r₁, r₂, r₃)
+bytes_le x =
+    rw (
+      div-div-eq-div-mul x 256 256,
+      div-div-eq-div-mul x 65536 256,
+      div-div-eq-div-mul x 16777216 256,
+      div-div-eq-div-mul x 4294967296 256,
+      div-div-eq-div-mul x 1099511627776 256,
+      div-div-eq-div-mul x 281474976710656 256,
+    )
 
-module _ (s : List ℕ) (at : ℕ) (room : at + 8 ≤ length s) where
-  next_byte : (k i j : ℕ) → i < length s → j ≡ i + 1 → take (suc k) (drop i s) ≡ get_or s i 0 ∷ take k (drop j s)
-  next_byte k i j h e = rw (drop-cons s i 0 h, e, add-one i)
+part_small : (s : List ℕ) (at i : ℕ) → length (take 8 (drop at s)) ≡ 8 → ((j : ℕ) → get_or s j 0 < 256) → get_or (take 8 (drop at s)) i 0 < 256
+part_small s at i n h = by_place (ltb i 8) refl
+  where
+    by_place : (t : Bool) → ltb i 8 ≡ t → get_or (take 8 (drop at s)) i 0 < 256
+    by_place true e = rw (get_or-take 8 (drop at s) i 0 (ltb-true i 8 e), get_or-drop at s i 0) (h (at + i))
+    by_place false e =
+        let l : length (take 8 (drop at s)) ≤ i = omega (arith, ltb-false i 8 e) in
+        rw (get_or-eq_default (take 8 (drop at s)) 0 l) (omega arith)
 
-  pub eight_there : (h l : ℕ) → (l < 4294967296) × (bytes_of 4 l ≡ get_or s at 0 ∷ get_or s (at + 1) 0 ∷ get_or s (at + 2) 0 ∷ get_or s (at + 3) 0 ∷ [])
-      → (h < 4294967296) × (bytes_of 4 h ≡ get_or s (at + 4) 0 ∷ get_or s (at + 5) 0 ∷ get_or s (at + 6) 0 ∷ get_or s (at + 7) 0 ∷ [])
-      → bytes_of 8 (h * 4294967296 + l) ≡ take 8 (drop at s)
-  eight_there h l low high =
-      two_words h l low.0 ∙ rw (low.1, high.1)
-      (sym
-      (rw (
-        next_byte 7 at (at + 1) (omega arith) refl,
-        next_byte 6 (at + 1) (at + 2) (omega arith) (omega arith),
-        next_byte 5 (at + 2) (at + 3) (omega arith) (omega arith),
-        next_byte 4 (at + 3) (at + 4) (omega arith) (omega arith),
-        next_byte 3 (at + 4) (at + 5) (omega arith) (omega arith),
-        next_byte 2 (at + 5) (at + 6) (omega arith) (omega arith),
-        next_byte 1 (at + 6) (at + 7) (omega arith) (omega arith),
-        next_byte 0 (at + 7) (at + 8) (omega arith) (omega arith),
-      )))
+pub eight_there : (s bs : List ℕ) (at x : ℕ) → at + 8 ≤ length s → ((i : ℕ) → get_or s i 0 < 256) → bs ≡ take (at + 8 - at) (drop at s)
+    → x ≡ from_le_bytes w64 bs → bytes_of 8 x ≡ take 8 (drop at s)
+eight_there s bs at x room small e read =
+    let k : at + 8 - at ≡ 8 = omega arith in
+    let d : bs ≡ take 8 (drop at s) = rw k at e in
+    let n : length (take 8 (drop at s)) ≡ 8 = length-take-le 8 (drop at s) (rw (length-drop at s) (omega arith)) in
+    sym (bytes_le x) ∙ le_bytes_8 (take 8 (drop at s)) x n (λ i. part_small s at i n small) (rw d at read)

@@ -10,10 +10,11 @@ use mir.Val.{Fits}
 use lib.ListN.{length, get_or, take, drop, length-drop, take-append-drop}
 use lib.Seq.{drop-drop, length-take-le}
 use lib.Dec.{ltb}
+use Rattle.std.specs.Char.{is_ascii_digit}
 use Rattle.decimal.specs.Numeral.{most_digits, leading, value_after}
 use Rattle.decimal.specs.Between.{WalkEnd, DigitsAt, Digits, bytes_of, BehindEight, BehindNine}
 use Rattle.decimal.proofs.Digits.{leading_append, value_below}
-use Rattle.decimal.proofs.Scanning.{walk_part, walk_whole, Walked, walked_below, walked_above, walked_end, walked_mul, walked_add, walked_more}
+use Rattle.decimal.proofs.Scanning.{walk_part, walk_whole, Walked, walked_stop, walked_end, walked_mul, walked_add, walked_more}
 
 pub behind_eight_lem : (s : List ℕ) (at x v : ℕ) → bytes_of 8 x ≡ take 8 (drop at s) → Digits (bytes_of 8 x) → v ≡ value_after 0 (bytes_of 8 x)
     → most_digits ≤ length s → at ≤ length s - most_digits → BehindEight s at v
@@ -69,13 +70,10 @@ module _ (s : List ℕ) (at v : ℕ) (p : BehindEight s at v) where
         says = rw p.says (sym (ap (value_after 0) t ∙ value_append 0 ds (take (leading (drop (at + 8) s)) (drop (at + 8) s))));
       }
 
-  pub eight_below : get_or s (at + 8) 0 < 48 → DigitsAt s at v (at + 8)
-  eight_below h = walked_below s at end v (at + 8) eight_walked (omega (arith, far.ten)) h
+  pub eight_stop : is_ascii_digit (get_or s (at + 8) 0) ≡ false → DigitsAt s at v (at + 8)
+  eight_stop h = walked_stop s at end v (at + 8) eight_walked (omega (arith, far.ten)) h
 
-  pub eight_above : 57 < get_or s (at + 8) 0 → DigitsAt s at v (at + 8)
-  eight_above h = walked_above s at end v (at + 8) eight_walked (omega (arith, far.ten)) h
-
-  module _ (x : ℕ) (b : 48 ≤ get_or s (at + 8) 0) (g : get_or s (at + 8) 0 ≤ 57) where
+  module _ (x : ℕ) (g : is_ascii_digit (get_or s (at + 8) 0) ≡ true) where
     pub nine_mul : Fits w64 (v * 10)
     nine_mul = walked_mul s at end v (at + 8) eight_walked (omega (arith, far.ten))
 
@@ -84,7 +82,7 @@ module _ (s : List ℕ) (at v : ℕ) (p : BehindEight s at v) where
       nine_add = walked_add s at end v (at + 8) eight_walked x (omega (arith, far.ten)) g e
 
       pub behind_nine_is : BehindNine s at (v * 10 + x)
-      behind_nine_is = record { eight = v; front = p; low = b; high = g; says = ap (λ (d : ℕ). v * 10 + d) e }
+      behind_nine_is = record { eight = v; front = p; digit = g; says = ap (λ (d : ℕ). v * 10 + d) e }
 
 as_said : (s : List ℕ) (at end v x i : ℕ) → v ≡ x → Walked s at end x i → Walked s at end v i
 as_said s at end v x i e w = rw e w
@@ -102,18 +100,12 @@ module _ (s : List ℕ) (at v : ℕ) (p : BehindNine s at v) where
       let d : ℕ = get_or s (at + 8) 0 - 48 in
       let w = eight_walked s at p.eight p.front in
       as_said s at stop v (p.eight * 10 + d) (at + 9) p.says
-      (rw i at (walked_more s at stop p.eight (at + 8) w d (omega (arith, last.ten)) p.low p.high refl))
+      (rw i at (walked_more s at stop p.eight (at + 8) w d (omega (arith, last.ten)) p.digit refl))
 
-  pub nine_room : at + most_digits ≤ length s
-  nine_room = p.front.room
+  pub nine_stop : is_ascii_digit (get_or s (at + 9) 0) ≡ false → DigitsAt s at v (at + 9)
+  nine_stop h = walked_stop s at stop v (at + 9) nine_walked (omega (arith, last.ten)) h
 
-  pub nine_below : get_or s (at + 9) 0 < 48 → DigitsAt s at v (at + 9)
-  nine_below h = walked_below s at stop v (at + 9) nine_walked (omega (arith, last.ten)) h
-
-  pub nine_above : 57 < get_or s (at + 9) 0 → DigitsAt s at v (at + 9)
-  nine_above h = walked_above s at stop v (at + 9) nine_walked (omega (arith, last.ten)) h
-
-  module _ (y : ℕ) (c : 48 ≤ get_or s (at + 9) 0) (f : get_or s (at + 9) 0 ≤ 57) where
+  module _ (y : ℕ) (f : is_ascii_digit (get_or s (at + 9) 0) ≡ true) where
     pub ten_mul : Fits w64 (v * 10)
     ten_mul = walked_mul s at stop v (at + 9) nine_walked (omega (arith, last.ten))
 
@@ -124,20 +116,17 @@ module _ (s : List ℕ) (at v : ℕ) (p : BehindNine s at v) where
       ten_walked : Walked s at stop (v * 10 + y) (at + 10)
       ten_walked =
           let i : at + 9 + 1 ≡ at + 10 = omega arith in
-          rw i at (walked_more s at stop v (at + 9) nine_walked y (omega (arith, last.ten)) c f d)
+          rw i at (walked_more s at stop v (at + 9) nine_walked y (omega (arith, last.ten)) f d)
 
       pub ten_last : length s ≤ at + 10 → DigitsAt s at (v * 10 + y) (at + 10)
       ten_last h = walked_end s at stop (v * 10 + y) (at + 10) ten_walked (last.no_more h)
 
       module _ (l : at + 10 < length s) where
-        pub ten_below : get_or s (at + 10) 0 < 48 → DigitsAt s at (v * 10 + y) (at + 10)
-        ten_below h = walked_below s at stop (v * 10 + y) (at + 10) ten_walked (last.more l) h
-
-        pub ten_above : 57 < get_or s (at + 10) 0 → DigitsAt s at (v * 10 + y) (at + 10)
-        ten_above h = walked_above s at stop (v * 10 + y) (at + 10) ten_walked (last.more l) h
+        pub ten_stop : is_ascii_digit (get_or s (at + 10) 0) ≡ false → DigitsAt s at (v * 10 + y) (at + 10)
+        ten_stop h = walked_stop s at stop (v * 10 + y) (at + 10) ten_walked (last.more l) h
 
         -- an eleventh digit: what is said does not matter
-        pub too_many : 48 ≤ get_or s (at + 10) 0 → get_or s (at + 10) 0 ≤ 57 → DigitsAt s at (v * 10 + y) (at + 11)
-        too_many h k =
-            let w = walked_more s at stop (v * 10 + y) (at + 10) ten_walked (get_or s (at + 10) 0 - 48) (last.more l) h k refl in
+        pub too_many : is_ascii_digit (get_or s (at + 10) 0) ≡ true → DigitsAt s at (v * 10 + y) (at + 10 + 1)
+        too_many h =
+            let w = walked_more s at stop (v * 10 + y) (at + 10) ten_walked (get_or s (at + 10) 0 - 48) (last.more l) h refl in
             record { from = omega arith; few = λ q. absurd (omega arith); many = λ q. omega (arith, w.leads) }

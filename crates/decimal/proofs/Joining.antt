@@ -4,8 +4,10 @@ use mathlib.Core.Path.{◌≡◌, refl, ap, sym, ◌∙◌}
 use mathlib.Core.List.{List, [], ◌∷◌, ◌++◌, append_assoc, append-nil}
 use native.Mathlib.Omega.{arith}
 use native.Mathlib.Nat.{div-add-mod', mod-lt, mul_left_comm, div-div-eq-div-mul}
-use lib.ListN.{length, set, take, length-set}
-use lib.Seq.{take-suc-set, take_all}
+use borrow.Rule.Slice.PartMut.{put_mid}
+use lib.ListN.{length, set}
+use lib.Seq.{drop-length}
+use Rattle.std.specs.Int.{w64, to_le_bytes}
 use Rattle.decimal.specs.Numeral.{tens, last_digits}
 use Rattle.decimal.specs.Lanes.{packed}
 use Rattle.decimal.proofs.Digits.{Digits, tens_pos, length_digits, digits_are_digits}
@@ -63,20 +65,13 @@ nine_of_ten x h =
     let r : x % 1000000000 ≡ x = omega arith in
     digits_split 1 9 x ∙ rw (q, r, one_zero)
 
--- ---- stores in a row
-abbrev pub stores : ℕ → List ℕ → List ℕ → List ℕ
-stores i [] l = l
-stores i (b ∷ bs) l = stores (suc i) bs (set l i b)
-
-stores_from : (bs l : List ℕ) (i : ℕ) → i + length bs ≡ length l → stores i bs l ≡ take i l ++ bs
-stores_from [] l i e = sym (append-nil (take i l) ∙ take_all i l (omega arith))
-stores_from (b ∷ bs) l i e =
-    let n : suc i + length bs ≡ length (set l i b) = rw (length-set l i b) (omega arith) in
-    stores_from bs (set l i b) (suc i) n
-    ∙ rw (take-suc-set l i b (omega arith)) (append_assoc (take i l) (b ∷ []) bs)
-
-pub stores_all : (bs l : List ℕ) → length l ≡ length bs → stores 0 bs l ≡ bs
-stores_all bs l e = stores_from bs l 0 (omega arith)
+-- ---- two bytes, and the others behind them
+written_behind : (l bs : List ℕ) (a b : ℕ) → length l ≡ 10 → put_mid 2 (length (set (set l 0 a) 1 b) - 2) (set (set l 0 a) 1 b) bs ≡ a ∷ b ∷ bs
+written_behind [] bs a b n = absurd (omega arith)
+written_behind (c ∷ []) bs a b n = absurd (omega arith)
+written_behind (c ∷ d ∷ r) bs a b n =
+    let k : suc (suc (length r)) - 2 ≡ length r = omega arith in
+    rw (k, drop-length r) (ap (λ (t : List ℕ). a ∷ b ∷ t) (append-nil bs))
 
 -- ---- bytes taken from one number, the lowest first
 abbrev bytes : ℕ → ℕ → List ℕ
@@ -96,12 +91,7 @@ bytes_digits : (k v y : ℕ) → v ≡ packed (last_digits k y) → bytes k v �
 bytes_digits k v y e =
     rw e (ap (λ (n : ℕ). bytes n (packed (last_digits k y))) (sym (length_digits k y)) ∙ unpacked (last_digits k y) (digits_are_digits k y))
 
-abbrev eight_bytes : ℕ → List ℕ
-eight_bytes v =
-    v % 256 ∷ v / 256 % 256 ∷ v / 65536 % 256 ∷ v / 16777216 % 256 ∷ v / 4294967296 % 256 ∷ v / 1099511627776 % 256
-    ∷ v / 281474976710656 % 256 ∷ v / 72057594037927936 % 256 ∷ []
-
-bytes_of_eight : (v : ℕ) → bytes 8 v ≡ eight_bytes v
+bytes_of_eight : (v : ℕ) → bytes 8 v ≡ to_le_bytes w64 v
 bytes_of_eight v =
     rw (
       div-div-eq-div-mul v 256 256,
@@ -112,7 +102,7 @@ bytes_of_eight v =
       div-div-eq-div-mul v 281474976710656 256,
     )
 
--- ten stores
+-- ten bytes
 module _ (l : List ℕ) (x v : ℕ) (n : length l ≡ 10) (h : x < 4294967296) where
   abbrev high : ℕ
   high = x / 100000000
@@ -123,11 +113,12 @@ module _ (l : List ℕ) (x v : ℕ) (n : length l ≡ 10) (h : x < 4294967296) w
   first_ones : high - 10 * (high * 13 / 128) ≡ high % 10
   first_ones = omega (arith, first_tens)
 
-  pub ten_put : v ≡ packed (last_digits 8 (x % 100000000))
-      → stores 0 ((48 + high * 13 / 128) ∷ (48 + (high - 10 * (high * 13 / 128))) ∷ eight_bytes v) l ≡ last_digits 10 x
-  ten_put e =
+  pub ten_put : (bs : List ℕ) → v ≡ packed (last_digits 8 (x % 100000000)) → bs ≡ to_le_bytes w64 v
+      → put_mid 2 (length (set (set l 0 (48 + high * 13 / 128)) 1 (48 + (high - 10 * (high * 13 / 128)))) - 2)
+      (set (set l 0 (48 + high * 13 / 128)) 1 (48 + (high - 10 * (high * 13 / 128)))) bs ≡ last_digits 10 x
+  ten_put bs e q =
       let a : (48 + high * 13 / 128) ∷ (48 + (high - 10 * (high * 13 / 128))) ∷ [] ≡ last_digits 2 high =
       rw (first_ones, first_tens) (sym (two_digits high (omega arith))) in
-      let b : eight_bytes v ≡ last_digits 8 (x % 100000000) = sym (bytes_of_eight v) ∙ bytes_digits 8 v (x % 100000000) e in
-      stores_all ((48 + high * 13 / 128) ∷ (48 + (high - 10 * (high * 13 / 128))) ∷ eight_bytes v) l n
+      let b : bs ≡ last_digits 8 (x % 100000000) = q ∙ sym (bytes_of_eight v) ∙ bytes_digits 8 v (x % 100000000) e in
+      written_behind l bs (48 + high * 13 / 128) (48 + (high - 10 * (high * 13 / 128))) n
       ∙ rw b (ap (λ (r : List ℕ). r ++ last_digits 8 (x % 100000000)) a ∙ sym (ten_digits_is x))

@@ -8,8 +8,9 @@ use borrow.Author.Tests.{le-leb, ne_eqb, leb-true, eqb-false, not-true}
 use lib.ListN.{length, get_or, take, drop, take-append-drop, get_or-append}
 use lib.Seq.{take_at, length-take-le, get_or-take}
 use lib.Dec.{leb, eqb}
-use Rattle.decimal.specs.declared.Field.TheVariants.{Number, Wrong}
-use Rattle.decimal.specs.Numeral.{tens, last_digits, size_within, size, numeral, leading, value_after, well_formed, field_of}
+use Rattle.std.specs.Prelude.{Option, Some, None}
+use Rattle.decimal.specs.declared.Field.{Field}
+use Rattle.decimal.specs.Numeral.{tens, last_digits, size_within, size, numeral, leading, value_after, number, well_formed, field_of}
 use Rattle.decimal.proofs.Digits.{Digits, and_true, tens_grow, length_digits, digits_are_digits, leading_append, leading_le, leading_are_digits, value_digits, digits_value, value_below}
 use Rattle.decimal.proofs.Sizes.{size_pos, size_le, size_bound, size_one, size_value, first_digit}
 
@@ -32,7 +33,7 @@ numeral_leading x rest z = leading_append (numeral x) rest (digits_are_digits (s
 numeral_head : (x : ℕ) (rest : List ℕ) → get_or (numeral x ++ rest) 0 0 ≡ get_or (numeral x) 0 0
 numeral_head x rest = get_or-append (numeral x) rest 0 0 (omega (arith, length_numeral x, size_pos 9 x))
 
-pub numeral_reads : (x at : ℕ) (rest : List ℕ) → x < tens 10 → leading rest ≡ 0 → field_of (numeral x ++ rest) at ≡ Number x (at + size x)
+pub numeral_reads : (x at : ℕ) (rest : List ℕ) → x < tens 10 → leading rest ≡ 0 → field_of (numeral x ++ rest) at ≡ number x (at + size x)
 unfolding field_of
 numeral_reads x at rest l z =
     rw (
@@ -89,14 +90,26 @@ formed_begins s e =
       small = omega (arith, value_below ds 0 0 (leading_are_digits s) (omega arith), ap tens m);
     }
 
-pub number_is_numeral : (s : List ℕ) (at x next : ℕ) → field_of s at ≡ Number x next → BeginsWith s x × (next ≡ at + leading s)
+abbrev value_in : Option Field → ℕ
+value_in (Some f) = f.value
+value_in None = 0
+
+abbrev next_in : Option Field → ℕ
+next_in (Some f) = f.next
+next_in None = 0
+
+pub number_same : (x n y m : ℕ) → number x n ≡ number y m → (x ≡ y) × (n ≡ m)
+number_same x n y m e = (ap value_in e, ap next_in e)
+
+pub number_is_numeral : (s : List ℕ) (at x next : ℕ) → field_of s at ≡ number x next → BeginsWith s x × (next ≡ at + leading s)
 unfolding field_of
 number_is_numeral s at x next = by_form (well_formed (leading s) (get_or s 0 0)) refl
   where
-    by_form : (t : Bool) → well_formed (leading s) (get_or s 0 0) ≡ t → cond t (Number (value_after 0 (take (leading s) s)) (at + leading s)) Wrong ≡ Number x next
+    by_form : (t : Bool) → well_formed (leading s) (get_or s 0 0) ≡ t → cond t (number (value_after 0 (take (leading s) s)) (at + leading s)) None ≡ number x next
         → BeginsWith s x × (next ≡ at + leading s)
     by_form true f e =
-        let p : value_after 0 (take (leading s) s) ≡ x = cc in
-        let q : next ≡ at + leading s = cc in
+        let h = number_same (value_after 0 (take (leading s) s)) (at + leading s) x next e in
+        let p : value_after 0 (take (leading s) s) ≡ x = h.0 in
+        let q : next ≡ at + leading s = sym h.1 in
         (rw p at (formed_begins s f), q)
     by_form false f e = let z : ◌≡◌ {A = ℕ} 0 1 = cc in absurd (omega arith)

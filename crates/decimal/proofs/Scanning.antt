@@ -1,53 +1,41 @@
 -- The walk over the digits of a line: its turns and ends.
-use Prim.Native.Nat.{ℕ, suc, ◌+◌, ◌-◌, ◌*◌, ◌≤◌, ◌<◌, ◌^◌}
+use Prim.Native.Nat.{ℕ, suc, ◌+◌, ◌-◌, ◌*◌, ◌≤◌, ◌<◌}
 use mathlib.Core.Path.{◌≡◌, refl, ap}
-use mathlib.Core.List.{List, [], ◌∷◌, ◌++◌}
-use mathlib.Core.Bool.{Bool, true, false, and-false, cond}
+use mathlib.Core.List.{List}
+use mathlib.Core.Bool.{Bool, true, false, cond}
 use native.Mathlib.Omega.{arith}
 use native.Mathlib.Numerals.{add-one}
 use borrow.Author.Tests.{le-leb, lt-leb, eq-eqb, ne_eqb, ltb-true, ltb-false}
 use mir.Syntax.{w64}
 use mir.Val.{Fits}
-use lib.ListN.{length, get_or, take, drop, length-drop, take-append-drop, drop_of_length-le}
-use lib.Seq.{drop-cons, drop-drop, length-take-le}
+use lib.ListN.{length, get_or, take, drop, drop_of_length-le}
+use lib.Seq.{drop-cons}
 use lib.Dec.{ltb}
-use Rattle.decimal.specs.declared.Field.TheVariants.{Number, Wrong}
-use Rattle.decimal.specs.Numeral.{tens, most_digits, is_digit_of, leading, value_after, field_of, field_at}
-use Rattle.decimal.specs.Between.{WalkEnd, DigitsAt, Digits, bytes_of, BehindEight}
-use Rattle.decimal.proofs.Digits.{tens_grow, is_digit, digit_is, leading_append, value_below}
+use Rattle.std.specs.Prelude.{None}
+use Rattle.std.specs.Char.{is_ascii_digit}
+use Rattle.decimal.specs.Numeral.{tens, most_digits, is_digit_of, leading, value_after, number, field_of, field_at}
+use Rattle.decimal.specs.Between.{WalkEnd, DigitsAt}
+use Rattle.decimal.proofs.Digits.{tens_grow, digit_is}
 use Rattle.decimal.proofs.Positions.{head_at}
 
 -- ---- where digits end
 module _ (s : List ℕ) (i : ℕ) where
-  none_below : i < length s → get_or s i 0 < 48 → leading (drop i s) ≡ 0
+  none_at : i < length s → is_ascii_digit (get_or s i 0) ≡ false → leading (drop i s) ≡ 0
   unfolding leading
-  none_below h b = rw (drop-cons s i 0 h, lt-leb 48 (get_or s i 0) b)
-
-  none_above : i < length s → 57 < get_or s i 0 → leading (drop i s) ≡ 0
-  unfolding leading
-  none_above h b = rw (drop-cons s i 0 h, lt-leb (get_or s i 0) 57 b, and-false)
+  none_at h e = rw (drop-cons s i 0 h, e)
 
   none_behind : length s ≤ i → leading (drop i s) ≡ 0
   unfolding leading
   none_behind h = rw (drop_of_length-le s h)
 
-  one_more : i < length s → 48 ≤ get_or s i 0 → get_or s i 0 ≤ 57 → leading (drop i s) ≡ suc (leading (drop (i + 1) s))
+  one_more : i < length s → is_ascii_digit (get_or s i 0) ≡ true → leading (drop i s) ≡ suc (leading (drop (i + 1) s))
   unfolding leading
-  one_more h b g = rw (drop-cons s i 0 h, is_digit (get_or s i 0) b g, add-one i)
+  one_more h e = rw (drop-cons s i 0 h, e, add-one i)
 
 -- ---- where a walk ends
 module _ (len at : ℕ) where
-  pub walk_none : len ≤ at → WalkEnd len at at
-  walk_none h = record { from = omega arith; near = omega arith; within = λ q. absurd (omega arith); whole = λ q. h }
-
   pub walk_whole : at < len → len - at ≤ most_digits → WalkEnd len at len
   walk_whole h g = record { from = omega arith; near = omega arith; within = λ q. omega arith; whole = λ q. omega arith }
-
-  pub walk_fits : len < 2 ^ 64 → most_digits < len - at → Fits w64 (at + most_digits)
-  walk_fits b h = omega arith
-
-  pub walk_fits_one : len < 2 ^ 64 → most_digits < len - at → Fits w64 (at + most_digits + 1)
-  walk_fits_one b h = omega arith
 
   pub walk_part : most_digits < len - at → WalkEnd len at (at + most_digits + 1)
   walk_part h = record { from = omega arith; near = omega arith; within = λ q. omega arith; whole = λ q. absurd (omega arith) }
@@ -77,11 +65,8 @@ module _ (s : List ℕ) (at end sum i : ℕ) (inv : Walked s at end sum i) where
   pub walked_within : i < end → i < length s
   walked_within h = omega (arith, inv.walk.within (omega (arith, inv.from)))
 
-  pub walked_below : i < end → get_or s i 0 < 48 → DigitsAt s at sum i
-  walked_below h b = at_end (none_below s i (walked_within h) b)
-
-  pub walked_above : i < end → 57 < get_or s i 0 → DigitsAt s at sum i
-  walked_above h b = at_end (none_above s i (walked_within h) b)
+  pub walked_stop : i < end → is_ascii_digit (get_or s i 0) ≡ false → DigitsAt s at sum i
+  walked_stop h e = at_end (none_at s i (walked_within h) e)
 
   pub walked_end : end ≤ i → DigitsAt s at sum i
   walked_end h = by_place (ltb (at + most_digits) i) refl
@@ -94,6 +79,9 @@ module _ (s : List ℕ) (at end sum i : ℕ) (inv : Walked s at end sum i) where
           let g : i ≤ at + most_digits = ltb-false (at + most_digits) i e in
           at_end (none_behind s i (omega (arith, inv.upto, inv.walk.whole (omega (arith, inv.upto)))))
 
+  pub walked_done : end ≤ i → DigitsAt s at sum end
+  walked_done h = let e : i ≡ end = omega (arith, inv.upto) in rw e at (walked_end h)
+
   -- eleven digits fit 64 bits: a walk never wraps
   walked_bound : i < end → sum < 10000000000
   walked_bound h =
@@ -103,13 +91,14 @@ module _ (s : List ℕ) (at end sum i : ℕ) (inv : Walked s at end sum i) where
   pub walked_mul : i < end → Fits w64 (sum * 10)
   walked_mul h = omega (arith, walked_bound h)
 
-  pub walked_add : (w : ℕ) → i < end → get_or s i 0 ≤ 57 → w ≡ get_or s i 0 - 48 → Fits w64 (sum * 10 + w)
-  walked_add w h g e = omega (arith, walked_bound h)
+  pub walked_add : (w : ℕ) → i < end → is_ascii_digit (get_or s i 0) ≡ true → w ≡ get_or s i 0 - 48 → Fits w64 (sum * 10 + w)
+  walked_add w h g e = omega (arith, walked_bound h, digit_is (get_or s i 0) g)
 
-  pub walked_more : (w : ℕ) → i < end → 48 ≤ get_or s i 0 → get_or s i 0 ≤ 57 → w ≡ get_or s i 0 - 48 → Walked s at end (sum * 10 + w) (i + 1)
+  pub walked_more : (w : ℕ) → i < end → is_ascii_digit (get_or s i 0) ≡ true → w ≡ get_or s i 0 - 48 → Walked s at end (sum * 10 + w) (i + 1)
   unfolding value_after
-  walked_more w h b g e =
-      let n = one_more s i (walked_within h) b g in
+  walked_more w h g e =
+      let n = one_more s i (walked_within h) g in
+      let b = digit_is (get_or s i 0) g in
       let k : i + 1 - at ≡ suc (i - at) = omega (arith, inv.from) in
       record {
         walk = inv.walk;
@@ -153,14 +142,11 @@ module _ (s : List ℕ) (at v end : ℕ) (d : DigitsAt s at v end) where
   pub field_within : 1 ≤ end - at → at < length s
   field_within h = (digit_at s at (some_lead h)).within
 
-  pub field_from : at ≤ end
-  field_from = d.from
-
-  pub field_none : end - at < 1 → Wrong ≡ field_at s at
+  pub field_none : end - at < 1 → None ≡ field_at s at
   unfolding field_of
   field_none h = let e = (d.few (omega (arith, d.from))).0 in rw (lt-leb 1 (leading (drop at s)) (omega arith))
 
-  pub field_long : most_digits < end - at → Wrong ≡ field_at s at
+  pub field_long : most_digits < end - at → None ≡ field_at s at
   unfolding field_of
   field_long h =
       let m = d.many (omega arith) in
@@ -173,7 +159,7 @@ module _ (s : List ℕ) (at v end : ℕ) (d : DigitsAt s at v end) where
     w : v ≡ value_after 0 (take (leading (drop at s)) (drop at s))
     w = (d.few (omega arith)).1
 
-    pub field_zero : (end - at ≡ 1 → ⊥) → get_or s at 0 ≡ 48 → Wrong ≡ field_at s at
+    pub field_zero : (end - at ≡ 1 → ⊥) → get_or s at 0 ≡ 48 → None ≡ field_at s at
     unfolding field_of
     field_zero k z =
         let n : leading (drop at s) ≡ 1 → ⊥ = λ q. k (omega (arith, e)) in
@@ -185,7 +171,7 @@ module _ (s : List ℕ) (at v end : ℕ) (d : DigitsAt s at v end) where
           z,
         )
 
-    pub field_digit : end - at ≡ 1 → Number v end ≡ field_at s at
+    pub field_digit : end - at ≡ 1 → number v end ≡ field_at s at
     unfolding field_of
     field_digit k =
         rw (
@@ -196,7 +182,7 @@ module _ (s : List ℕ) (at v end : ℕ) (d : DigitsAt s at v end) where
           e,
         )
 
-    pub field_digits : (end - at ≡ 1 → ⊥) → (get_or s at 0 ≡ 48 → ⊥) → Number v end ≡ field_at s at
+    pub field_digits : (end - at ≡ 1 → ⊥) → (get_or s at 0 ≡ 48 → ⊥) → number v end ≡ field_at s at
     unfolding field_of
     field_digits k z =
         let n : leading (drop at s) ≡ 1 → ⊥ = λ q. k (omega (arith, e)) in

@@ -3,11 +3,9 @@ use Prim.Native.Nat.{ℕ, ◌+◌, ◌-◌, ◌*◌, ◌/◌, ◌%◌, ◌^◌, 
 use mathlib.Core.Path.{◌≡◌, refl, ap, sym, ◌∙◌}
 use native.Mathlib.Omega.{arith}
 use native.Mathlib.Nat.{div-add-mod', mod-lt, add-mul-div_right}
-use mir.Syntax.{w64}
-use mir.Val.{Fits}
 use lib.Bits.{bit_and, and_block, and_mask, and_zero_r}
 use lib.Pow.{pow_pos}
-use Rattle.decimal.specs.Numeral.{tens, last_digits}
+use Rattle.decimal.specs.Numeral.{last_digits}
 use Rattle.decimal.specs.Lanes.{quarters, packed}
 use Rattle.decimal.proofs.Joining.{spread, eight_digits}
 
@@ -44,9 +42,6 @@ module _ (a b : ℕ) (h : a < 10000) (g : b < 10000) where
       let u = high_side product (a / 100) b product_is (omega arith) g in
       and_sides 32 product 127 127 (omega arith)
       ∙ rw (and_mask (product / 4294967296) 7, and_mask (product % 4294967296) 7, l, u) (omega arith)
-
-  pub hundreds_fit : Fits w64 (6553599 * hundreds)
-  hundreds_fit = omega (arith, hundreds_is)
 
   pub hundreds_below : 6553599 * hundreds ≤ (a + b * 4294967296) * 65536
   hundreds_below = omega (arith, hundreds_is)
@@ -114,34 +109,8 @@ module _ (a b c d : ℕ) (ha : a < 100) (hb : b < 100) (hc : c < 100) (hd : d < 
 
   -- of a number r that is these four
   module _ (r : ℕ) (e : r ≡ quarters a b c d) where
-    whole_small : r ≤ 27866447902605411
-    whole_small = rw e (omega arith)
-
-    tens_small : tens_in r ≤ 2533313445691401
-    tens_small = rw (e, tens_are) (omega arith)
-
-    tens_below : 10 * tens_in r ≤ r
-    tens_below = rw (e, tens_are) (omega arith)
-
     tens_packed : r * 256 + 3472328296227680304 - 2559 * tens_in r ≡ packed (spread a b c d)
     tens_packed = rw e spread_packed
-
--- ---- nothing wraps
-module _ (r t : ℕ) (h : r ≤ 27866447902605411) where
-  product_fits : Fits w64 (r * 103)
-  product_fits = omega arith
-
-  shifted_fits : Fits w64 (r * 256)
-  shifted_fits = omega arith
-
-  zeros_fit : Fits w64 (r * 256 + 3472328296227680304)
-  zeros_fit = omega arith
-
-  taken_fits : t ≤ 2533313445691401 → Fits w64 (2559 * t)
-  taken_fits g = omega arith
-
-  taken_below : 10 * t ≤ r → 2559 * t ≤ r * 256 + 3472328296227680304
-  taken_below g = omega arith
 
 -- ---- the digits of a number of eight
 module _ (x : ℕ) (h : x < 100000000) where
@@ -158,23 +127,5 @@ module _ (x : ℕ) (h : x < 100000000) where
   last_pair = omega arith
 
   module _ (r : ℕ) (e : r ≡ quarters (x / 10000 / 100) (x / 10000 % 100) (x % 10000 / 100) (x % 10000 % 100)) where
-    eight_whole : r ≤ 27866447902605411
-    eight_whole = whole_small _ _ _ _ first_pair second_pair third_pair last_pair r e
-
-    pub eight_product : Fits w64 (r * 103)
-    eight_product = product_fits r 0 eight_whole
-
-    pub eight_shifted : Fits w64 (r * 256)
-    eight_shifted = shifted_fits r 0 eight_whole
-
-    pub eight_zeros : Fits w64 (r * 256 + 3472328296227680304)
-    eight_zeros = zeros_fit r 0 eight_whole
-
-    pub eight_taken : Fits w64 (2559 * tens_in r)
-    eight_taken = taken_fits r (tens_in r) eight_whole (tens_small _ _ _ _ first_pair second_pair third_pair last_pair r e)
-
-    pub eight_below : 2559 * tens_in r ≤ r * 256 + 3472328296227680304
-    eight_below = taken_below r (tens_in r) eight_whole (tens_below _ _ _ _ first_pair second_pair third_pair last_pair r e)
-
     pub eight_are : r * 256 + 3472328296227680304 - 2559 * tens_in r ≡ packed (last_digits 8 x)
     eight_are = rw (eight_digits x h) (tens_packed _ _ _ _ first_pair second_pair third_pair last_pair r e)

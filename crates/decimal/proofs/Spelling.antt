@@ -41,12 +41,6 @@ size_above (suc f) x = by_test (ltb x 10) refl (size_above f (x / 10))
     by_test true e g = omega (arith, above_none f 100 x (omega (arith, ltb-true x 10 e)))
     by_test false e g = omega (arith, above_tenth f 10 x)
 
-pub below_bound : (x b : ℕ) → x < b → 0 ≡ reached x b
-below_bound x b h = rw (lt-ltb x b h)
-
-pub from_bound : (x b : ℕ) → b ≤ x → 1 ≡ reached x b
-from_bound x b h = rw (le-ltb x b h)
-
 pub size_counted : (x a b c d e f g h i : ℕ) → a ≡ reached x 10 → b ≡ reached x 100 → c ≡ reached x 1000 → d ≡ reached x 10000
     → e ≡ reached x 100000 → f ≡ reached x 1000000 → g ≡ reached x 10000000 → h ≡ reached x 100000000 → i ≡ reached x 1000000000
     → 1 + a + b + c + d + (e + f + g) + h + i ≡ size x

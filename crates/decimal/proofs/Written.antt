@@ -1,12 +1,12 @@
 -- A numeral digit by digit: the last one behind those of a tenth of the number.
 use Prim.Native.Nat.{ℕ, zero, suc, ◌+◌, ◌/◌, ◌%◌, ◌≤◌, ◌<◌}
-use mathlib.Core.Path.{◌≡◌, refl, sym, ◌∙◌, ap}
-use mathlib.Core.Bool.{Bool, true, false, cond}
-use mathlib.Core.List.{List, [], ◌∷◌, ◌++◌}
+use mathlib.Core.Path.{◌≡◌, refl, sym, ap}
+use mathlib.Core.Bool.{cond}
+use mathlib.Core.List.{[], ◌∷◌}
 use native.Mathlib.Omega.{arith}
-use borrow.Author.Tests.{lt-ltb, le-ltb, ltb-false}
+use borrow.Author.Tests.{lt-ltb, le-ltb}
 use lib.Dec.{ltb}
-use Rattle.decimal.specs.Numeral.{tens, last_digits, size_within, size, numeral}
+use Rattle.decimal.specs.Numeral.{tens, last_digits, size_within, size}
 use Rattle.decimal.specs.Claims.{NumeralDigits}
 use Rattle.decimal.proofs.Sizes.{size_one}
 

@@ -1,5 +1,6 @@
 -- Between the functions of the code. No theorem is stated with these.
 use Rattle.std.specs.Prelude.{ℕ, zero, suc, ◌+◌, ◌-◌, ◌*◌, ◌/◌, ◌%◌, ◌≤◌, ◌<◌, ◌≡◌, List, [], ◌∷◌, Bool, true, false, cond, length, get_or, take, drop, ltb}
+use Rattle.std.specs.Char.{is_ascii_digit}
 use Rattle.decimal.specs.Numeral.{most_digits, leading, value_after}
 
 -- 1 for a number that reaches a bound.
@@ -42,6 +43,5 @@ pub record BehindEight (s : List ℕ) (at v : ℕ) : Type 0 where
 pub record BehindNine (s : List ℕ) (at v : ℕ) : Type 0 where
   pub eight : ℕ
   pub front : BehindEight s at eight
-  pub low : 48 ≤ get_or s (at + 8) 0
-  pub high : get_or s (at + 8) 0 ≤ 57
+  pub digit : is_ascii_digit (get_or s (at + 8) 0) ≡ true
   pub says : v ≡ eight * 10 + (get_or s (at + 8) 0 - 48)

@@ -1,7 +1,6 @@
 -- Document 01, "Broadcast lines": "A number has 1 to 10 digits, no sign and no leading zero (0 is `0`)."
-use Rattle.std.specs.Prelude.{ℕ, zero, suc, ◌+◌, ◌-◌, ◌*◌, ◌/◌, ◌%◌, List, [], ◌∷◌, ◌++◌, Bool, not, ◌&&◌, ◌||◌, cond, get_or, take, drop, leb, eqb, ltb}
+use Rattle.std.specs.Prelude.{Option, Some, None, ℕ, zero, suc, ◌+◌, ◌-◌, ◌*◌, ◌/◌, ◌%◌, List, [], ◌∷◌, ◌++◌, Bool, not, ◌&&◌, ◌||◌, cond, get_or, take, drop, leb, eqb, ltb}
 use Rattle.decimal.specs.declared.Field.{Field}
-use Rattle.decimal.specs.declared.Field.TheVariants.{Number, Wrong}
 
 -- Powers of ten.
 abbrev pub tens : ℕ → ℕ
@@ -43,14 +42,18 @@ value_after a (d ∷ ds) = value_after (a * 10 + (d - 48)) ds
 abbrev pub most_digits : ℕ
 most_digits = 10
 
+-- A number, and the position behind it.
+abbrev pub number : ℕ → ℕ → Option Field
+number x next = Some (record { value = x; next = next })
+
 -- k digits of which b is the first have the form of a number.
 abbrev pub well_formed : ℕ → ℕ → Bool
 well_formed k b = leb 1 k && (leb k most_digits && (eqb k 1 || not (eqb b 48)))
 
 -- The number that s begins with, where s is what a line has from position `at` on.
-unfoldable pub field_of : List ℕ → ℕ → Field
-field_of s at = cond (well_formed (leading s) (get_or s 0 0)) (Number (value_after 0 (take (leading s) s)) (at + leading s)) Wrong
+unfoldable pub field_of : List ℕ → ℕ → Option Field
+field_of s at = cond (well_formed (leading s) (get_or s 0 0)) (number (value_after 0 (take (leading s) s)) (at + leading s)) None
 
 -- The number at a position of a line.
-abbrev pub field_at : List ℕ → ℕ → Field
+abbrev pub field_at : List ℕ → ℕ → Option Field
 field_at s at = field_of (drop at s) at

@@ -13,6 +13,7 @@ const ZEROS: u64 = 0x3030_3030_3030_3030;
 
 // The pairs of two numbers of four digits: both are divided by 100 in one product, for 10486 / 2^20 is near enough to 1 / 100.
 // What is left of each goes 16 bits higher: 2^16 (y - 100 h) + h is 2^16 y - 6553599 h.
+#[tactic(auto, using(crate::proofs::SideBySide::hundreds_below, crate::proofs::SideBySide::pairs_are))]
 fn pairs(a: u64, b: u64) -> u64
     requires { (a < 10000) × (b < 10000) }
     ensures { result ≡ quarters (a / 100) (a % 100) (b / 100) (b % 100) }
@@ -24,6 +25,7 @@ fn pairs(a: u64, b: u64) -> u64
 
 // The digits of a number of eight, in the order in which they are written: 103 / 2^10 is near enough to 1 / 10.
 // What is left of each pair goes 8 bits higher: 2^8 (y - 10 t) + t is 2^8 y - 2559 t.
+#[tactic(auto, using(crate::proofs::SideBySide::eight_are))]
 fn eight(x: u32) -> u64
     requires { x < 100000000 }
     ensures { result ≡ packed (last_digits 8 x) }
@@ -35,6 +37,7 @@ fn eight(x: u32) -> u64
 
 // Ten digits of a number. The bytes of the last eight are stored in a row, so that they take one store.
 // The first two say less than 43, where 13 / 2^7 is near enough to 1 / 10.
+#[tactic(auto, using(crate::proofs::Joining::ten_put))]
 pub fn put_ten(part: &mut [u8], x: u32)
     requires { length part.old ≡ 10 }
     ensures { part.new ≡ last_digits 10 x }
@@ -44,23 +47,14 @@ pub fn put_ten(part: &mut [u8], x: u32)
     let low = eight(x % 100000000);
     part[0] = b'0' + tens as u8;
     part[1] = b'0' + (high - 10 * tens) as u8;
-    part[2] = (low % 256) as u8;
-    part[3] = (low / 256 % 256) as u8;
-    part[4] = (low / 65536 % 256) as u8;
-    part[5] = (low / 16777216 % 256) as u8;
-    part[6] = (low / 4294967296 % 256) as u8;
-    part[7] = (low / 1099511627776 % 256) as u8;
-    part[8] = (low / 281474976710656 % 256) as u8;
-    part[9] = (low / 72057594037927936 % 256) as u8;
+    part[2..].copy_from_slice(&low.to_le_bytes());
 }
 
 // How many digits a number has that has more than eight.
+#[tactic(auto, using(crate::proofs::Spelling::nine_places, crate::proofs::Spelling::ten_places))]
 pub fn long_size(x: u32) -> usize
     requires { 100000000 ≤ x }
     ensures { result ≡ size x }
 {
-    if x < 1000000000 {
-        return 9;
-    }
-    10
+    if x < 1000000000 { 9 } else { 10 }
 }

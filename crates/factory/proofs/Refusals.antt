@@ -1,5 +1,5 @@
 -- The refusals of the factory's calls: the search among the check points, and the tests joined in order.
-use Prim.Native.Nat.{ℕ, ◌+◌, ◌*◌, ◌-◌, ◌≤◌, ◌<◌}
+use Prim.Native.Nat.{ℕ, ◌+◌, ◌*◌, ◌≤◌, ◌<◌}
 use mathlib.Core.Path.{◌≡◌, refl, sym, ◌∙◌}
 use mathlib.Core.Bool.{Bool, true, false}
 use mathlib.Core.List.{List, [], ◌∷◌}
@@ -11,10 +11,15 @@ use lib.ListN.{length, drop, get_or, drop_of_length-le}
 use lib.Seq.{drop-cons}
 use Rattle.shape.specs.Lengths.{shape, Valid, checks_length, row_length, draw_length, triple_draw_length, packs_length}
 use Rattle.shape.proofs.Small.{each_small}
-use Rattle.refusal.specs.Refusal.{◌when◌, first, or_else}
+use Rattle.std.specs.Prelude.{Result}
+use Rattle.std.specs.Result.{result_and}
+use Rattle.refusal.specs.declared.Refusal.{Refusal}
+use Rattle.refusal.specs.Numbers.{refused}
+use Rattle.refusal.specs.Refusal.{◌when◌, first}
 use Rattle.refusal.specs.Conditions.{wrong_length, bad_point, any_beyond, station_tests}
 use Rattle.refusal.proofs.Laws.{all_fail, equal}
-use Rattle.refusal.proofs.Groups.{first_chain, stopped, went_on, fail_parts}
+use Rattle.refusal.proofs.Groups.{stopped, went_on, fail_parts}
+use Rattle.refusal.proofs.Checks.{both_asked}
 use Rattle.refusal.proofs.Ranges.{station_valid}
 use Rattle.factory.specs.Calls.{any_bad_point, factory_tests, factory_row_refusal, factory_triple_refusal, lists_tests}
 use Rattle.packs.specs.Between.{Fine}
@@ -41,14 +46,20 @@ module _ (l : List ℕ) (i : ℕ) (b : Bool) where
   unfolding any_bad_point
   points_ended h inv = rw (← inv, drop_of_length-le l h)
 
--- the tests of the lists, each asked by itself and the answers joined
-pub lists_joined : (n drawn written : ℕ) (ws draw out : List ℕ) (a b c d e u v w r : ℕ)
-    → a ≡ first (4 when any_bad_point ws ∷ []) → b ≡ first (5 when wrong_length ws n ∷ [])
-    → c ≡ first (5 when wrong_length draw drawn ∷ []) → d ≡ first (5 when wrong_length out written ∷ [])
-    → e ≡ first (8 when any_beyond draw ∷ []) → u ≡ or_else d e → v ≡ or_else c u → w ≡ or_else b v → r ≡ or_else a w
-    → r ≡ first (lists_tests n ws draw drawn out written)
-lists_joined n drawn written ws draw out a b c d e u v w r f g h i j k l m o =
-    rw (o, m, l, k, f, g, h, i, j) (sym (first_chain (lists_tests n ws draw drawn out written) tt))
+-- the tests of the lists, each asked by itself
+pub lists_joined : {A : Type 0} (n drawn written : ℕ) (ws draw out : List ℕ) (a b c d e w x y r : Result A Refusal)
+    → refused a ≡ first (4 when any_bad_point ws ∷ []) → refused b ≡ first (5 when wrong_length ws n ∷ [])
+    → refused c ≡ first (5 when wrong_length draw drawn ∷ []) → refused d ≡ first (5 when wrong_length out written ∷ [])
+    → refused e ≡ first (8 when any_beyond draw ∷ []) → w ≡ result_and a b → x ≡ result_and w c → y ≡ result_and x d → r ≡ result_and y e
+    → refused r ≡ first (lists_tests n ws draw drawn out written)
+lists_joined n drawn written ws draw out a b c d e w x y r f g h i j k l m o =
+    let one = 4 when any_bad_point ws in
+    let two = 5 when wrong_length ws n in
+    let three = 5 when wrong_length draw drawn in
+    let four = 5 when wrong_length out written in
+    both_asked (one ∷ two ∷ three ∷ four ∷ []) (8 when any_beyond draw ∷ []) tt y e r
+    (both_asked (one ∷ two ∷ three ∷ []) (four ∷ []) tt x d y
+    (both_asked (one ∷ two ∷ []) (three ∷ []) tt w c x (both_asked (one ∷ []) (two ∷ []) tt a b w f g k) h l) i m) j o
 
 module _ (n t points : ℕ) (ws draw out : List ℕ) (r : ℕ) (posts : r ≡ first (station_tests n t points)) where
   pub row_stopped : (r ≡ 0 → ⊥) → r ≡ factory_row_refusal n t points ws draw out

@@ -2,12 +2,15 @@
 #![tactic(auto)]
 
 ghost use Rattle.std.specs.Prelude.{◌≡◌};
+ghost use Rattle.refusal.specs.Numbers.{refused};
 ghost use Rattle.factory.specs.Calls.{factory_row_refusal, factory_row_out, factory_triple_refusal, factory_triple_out, dealer_number_of};
 
 pub mod checks;
 
+use refusal::Refusal;
 use shape::Shape;
 
+// C gets this struct, and so the refusal's number.
 #[repr(C)]
 #[derive(Clone, Copy)]
 pub struct Number {
@@ -16,50 +19,55 @@ pub struct Number {
 }
 
 // All posts' parts of one drawn row.
-pub fn row(n: usize, t: usize, points: usize, ws: &[u32], draw: &[u32], out: &mut [u32]) -> u8
-    ensures value { result ≡ factory_row_refusal n t points ws.now draw.now out.old }
+#[tactic(auto, using(refusal::proofs::Endings::refused, refusal::proofs::Endings::accepted, crate::proofs::Refusals::row_fine))]
+pub fn row(
+    n: usize,
+    t: usize,
+    points: usize,
+    ws: &[u32],
+    draw: &[u32],
+    out: &mut [u32],
+) -> Result<(), Refusal>
+    ensures value { refused result ≡ factory_row_refusal n t points ws.now draw.now out.old }
     ensures out_after { out.new ≡ factory_row_out n t points ws.now draw.now out.old }
 {
-    let refusal = checks::row_refusal(n, t, points, ws, draw, out);
-    if refusal != 0 {
-        return refusal;
-    }
-    let shape = Shape { n, t, points };
-    packs::write_row(shape, ws, draw, out);
-    0
+    checks::row_refusal(n, t, points, ws, draw, out)?;
+    packs::write_row(Shape { n, t, points }, ws, draw, out);
+    Ok(())
 }
 
 // All posts' parts of a drawn triple: of l, then of l', then of l''.
-pub fn triple(n: usize, t: usize, points: usize, ws: &[u32], draw: &[u32], out: &mut [u32]) -> u8
-    ensures value { result ≡ factory_triple_refusal n t points ws.now draw.now out.old }
+#[tactic(auto, using(refusal::proofs::Endings::refused, refusal::proofs::Endings::accepted, crate::proofs::Refusals::triple_fine))]
+pub fn triple(
+    n: usize,
+    t: usize,
+    points: usize,
+    ws: &[u32],
+    draw: &[u32],
+    out: &mut [u32],
+) -> Result<(), Refusal>
+    ensures value { refused result ≡ factory_triple_refusal n t points ws.now draw.now out.old }
     ensures out_after { out.new ≡ factory_triple_out n t points ws.now draw.now out.old }
 {
-    let refusal = checks::triple_refusal(n, t, points, ws, draw, out);
-    if refusal != 0 {
-        return refusal;
-    }
-    let shape = Shape { n, t, points };
-    packs::write_triple(shape, ws, draw, out);
-    0
+    checks::triple_refusal(n, t, points, ws, draw, out)?;
+    packs::write_triple(Shape { n, t, points }, ws, draw, out);
+    Ok(())
 }
 
 // The number c that the dealer of u broadcasts, where `constant` is f(0).
+#[tactic(auto, using(crate::proofs::Dealer::number_given, crate::proofs::Dealer::constant_most))]
 pub fn dealer_number(u: u32, constant: u32) -> Number
     ensures { result ≡ dealer_number_of u constant }
 {
-    let first = refusal::number(u);
-    if first != 0 {
-        return Number {
-            refusal: first,
+    let checked = refusal::number(u).and(refusal::number(constant));
+    match checked {
+        Ok(()) => Number {
+            refusal: 0,
+            value: field::add(u, field::P - constant),
+        },
+        Err(_) => Number {
+            refusal: refusal::number_of(checked),
             value: 0,
-        };
-    }
-    let refusal = refusal::number(constant);
-    if refusal != 0 {
-        return Number { refusal, value: 0 };
-    }
-    Number {
-        refusal: 0,
-        value: field::add(u, field::P - constant),
+        },
     }
 }

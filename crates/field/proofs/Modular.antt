@@ -1,7 +1,7 @@
 -- Laws of the arithmetic on plain numbers: every result is an element, and order and grouping do not matter.
 use mathlib.Core.Path.{◌≡◌, sym, ◌∙◌, ap}
-use Prim.Native.Nat.{ℕ, ◌+◌, ◌*◌, ◌-◌, ◌%◌, ◌<◌}
-use native.Mathlib.Nat.{mod-lt, mod-eq_of_lt, mod-add-mod, add-mod-mod, mod_self, add_assoc, add_comm, zero-add, mul-one, mul_comm, mul_assoc, mul-add}
+use Prim.Native.Nat.{ℕ, ◌+◌, ◌*◌, ◌-◌, ◌/◌, ◌%◌, ◌<◌}
+use native.Mathlib.Nat.{div-add-mod', mul-add-mod_self_right, mod-lt, mod-eq_of_lt, mod-add-mod, add-mod-mod, mod_self, add_assoc, add_comm, zero-add, mul-one, mul_comm, mul_assoc, mul-add}
 use native.Mathlib.Omega.{arith}
 use lib.Dec.{lit<}
 use Rattle.field.specs.Modulus.{p}
@@ -62,3 +62,19 @@ sum_opposite x h = add-mod-mod x (p - x) p ∙ ap (λ (y : ℕ). y % p) whole �
   where
     whole : x + (p - x) ≡ p
     whole = omega arith
+
+-- one remainder is enough: of a sum with a whole product, and of a difference to which 3p is added
+
+pub add_product_by_one : (a b c x : ℕ) → x ≡ a * b → (x + c) % p ≡ sum c (product a b)
+unfolding sum product
+add_product_by_one a b c x e = ap (λ (y : ℕ). y % p) (add_comm x c ∙ ap (λ (y : ℕ). c + y) e) ∙ sym (add-mod-mod c (a * b) p)
+
+pub difference_by_one : (a b : ℕ) → b < 4294967296 → (a + (6442450941 - b)) % p ≡ difference a b
+unfolding difference
+difference_by_one a b h = ap (λ (x : ℕ). x % p) split ∙ mul-add-mod_self_right (2 - b / p) p (a + (p - b % p))
+  where
+    -- b is p times at most 2, and a remainder
+    split : a + (6442450941 - b) ≡ (2 - b / p) * p + (a + (p - b % p))
+    split =
+        let b-below : b % p < p = mod-lt b (omega arith) in
+        omega (arith, div-add-mod' b p)

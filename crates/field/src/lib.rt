@@ -29,6 +29,7 @@ fn remainder(x: u64) -> u32
     (twice - WIDE_P) as u32
 }
 
+#[tactic(auto, unfolding(crate::specs::Arithmetic::sum))]
 pub fn add(a: u32, b: u32) -> u32
     ensures { result ≡ sum a b }
 {
@@ -36,6 +37,7 @@ pub fn add(a: u32, b: u32) -> u32
 }
 
 // Three times p is more than any number of 32 bits, so one remainder is enough.
+#[tactic(auto, using(crate::proofs::Modular::difference_by_one))]
 pub fn sub(a: u32, b: u32) -> u32
     ensures { result ≡ difference a b }
 {
@@ -49,6 +51,7 @@ pub fn whole_product(a: u32, b: u32) -> u64
     a as u64 * b as u64
 }
 
+#[tactic(auto, unfolding(crate::specs::Arithmetic::product))]
 pub fn mul(a: u32, b: u32) -> u32
     ensures { result ≡ product a b }
 {
@@ -56,6 +59,7 @@ pub fn mul(a: u32, b: u32) -> u32
 }
 
 // c plus the product, with one remainder.
+#[tactic(auto, using(crate::proofs::Modular::add_product_by_one))]
 pub fn add_product(c: u32, a: u32, b: u32) -> u32
     ensures { result ≡ sum c (product a b) }
 {
@@ -70,7 +74,8 @@ pub fn reduce(low: u64, high: u64) -> u32
     ((low + high) % WIDE_P) as u32
 }
 
-// The inverse of x, and 0 for 0: with p = q u + r, 1/u is (p - q)/r, and r is smaller than u.
+// The inverse of x, and 0 for 0: with p = q u + r, 1/u is (p - q)/r, and r is smaller than u. Euclid's loop: it counts nothing.
+#[tactic(auto, using(crate::proofs::Euclid::turn, crate::proofs::Euclid::next_positive, crate::proofs::Euclid::none_for_zero, crate::proofs::Euclid::found, crate::proofs::Euclid::started, crate::proofs::Modular::product_below))]
 pub fn inverse(x: u32) -> u32
     ensures value { result ≡ inverse x }
     ensures meaning { IsInverse x result }

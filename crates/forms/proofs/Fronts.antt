@@ -7,26 +7,17 @@ use native.Mathlib.Omega.{arith}
 use borrow.Rule.Slice.PartMut.{put_mid}
 use lib.ListN.{length, take, drop, replicate, length-append, length-drop, take-append-drop}
 use lib.Seq.{take_at, drop_at, take_all, drop-length, length-take-le}
-use lib.Dec.{ltb}
 use Rattle.csv_fields.specs.declared.Run.{Run}
-use Rattle.csv_fields.specs.declared.Run.TheVariants.{Fields, Broken}
+use Rattle.std.specs.Prelude.{Option}
 use Rattle.csv_fields.specs.Fields.{fields_at, ended, numbers_of_of, run_from, run_of, padded}
 use Rattle.forms.specs.Between.{below_limit}
-
--- ---- whether numbers stay below a limit
-module _ (r : Run) (limit : ℕ) where
-  pub below_limit_is : (largest next : ℕ) → r ≡ Fields largest next → ltb largest limit ≡ below_limit r limit
-  below_limit_is largest next w = rw w
-
-  pub below_none : r ≡ Broken → false ≡ below_limit r limit
-  below_none w = rw w
 
 -- ---- numbers at the front of a list, and zeros behind
 module _ (s out : List ℕ) (at count : ℕ) (b : count ≤ length out) where
   pub front_count : count ≡ length (take count out)
   front_count = sym (length-take-le count out b)
 
-  pub front_run : (r : Run) → r ≡ run_from 0 (ended s (fields_at (length (take count out)) s at)) → r ≡ run_of (ended s (fields_at count s at))
+  pub front_run : (r : Option Run) → r ≡ run_from 0 (ended s (fields_at (length (take count out)) s at)) → r ≡ run_of (ended s (fields_at count s at))
   front_run r e = rw (length-take-le count out b) at e
 
   front_filled : (ys zs : List ℕ) → ys ≡ numbers_of_of (fields_at (length (take count out)) s at) → length ys ≡ length (take count out)
@@ -41,7 +32,7 @@ module _ (s out : List ℕ) (at count : ℕ) (b : count ≤ length out) where
       let q : zs ≡ replicate (length out - length ys) 0 = z ∙ rw (m, drop_at ys r count c, take_all (length r) r (omega arith), k) in
       rw (m, take_at ys r count c, drop_at ys r count c, drop-length r, ← w, q) (ap (λ (l : List ℕ). ys ++ l) (append-nil _))
 
-  pub front_read : (ys zs : List ℕ) (r : Run) (limit : ℕ) (t : Bool) → ys ≡ cond (below_limit r limit) (numbers_of_of (fields_at (length (take count out)) s at)) (take count out)
+  pub front_read : (ys zs : List ℕ) (r : Option Run) (limit : ℕ) (t : Bool) → ys ≡ cond (below_limit r limit) (numbers_of_of (fields_at (length (take count out)) s at)) (take count out)
       → length ys ≡ length (take count out) → t ≡ below_limit r limit
       → zs ≡ cond t (replicate (length (take (length (ys ++ drop count out) - count) (drop count (ys ++ drop count out)))) 0)
       (take (length (ys ++ drop count out) - count) (drop count (ys ++ drop count out)))

@@ -10,12 +10,11 @@ use lib.ListN.{length, get_or, take, drop, length-append, length-drop, take-appe
 use lib.Seq.{take_at, drop_at, take_all, length-take-le}
 use lib.Dec.{eqb, ltb}
 use Rattle.decimal.specs.declared.Field.{Field}
-use Rattle.decimal.specs.declared.Field.TheVariants.{Number, Wrong}
+use Rattle.std.specs.Prelude.{Option, Some, None}
 use Rattle.decimal.specs.Numeral.{field_at}
 use Rattle.csv_fields.specs.declared.Run.{Run}
-use Rattle.csv_fields.specs.declared.Run.TheVariants.{Fields, Broken}
 use Rattle.csv_fields.specs.Walk.{end_of, lows, Roomed}
-use Rattle.csv_fields.specs.Fields.{Parsed, parsed, malformed, push, behind, fields_at, ended, numbers_of_of, largest_from, run_from}
+use Rattle.csv_fields.specs.Fields.{Parsed, parsed, malformed, push, behind, fields_at, ended, numbers_of_of, largest_from, run, run_from}
 use Rattle.csv_fields.proofs.Rooming.{lows_fit}
 use Rattle.forms.specs.Between.{PartOf, room_size, below_limit}
 use Rattle.csv_fields.proofs.Single.{largest_above, largest_narrow}
@@ -52,11 +51,11 @@ module _ (j : ℕ) (s : List ℕ) where
       let e : suc n + j ≡ suc (n + j) = omega arith in
       rw e (by_field (eqb (get_or s at 0) 44) (field_at s (at + 1)) (two_parts n))
     where
-      by_field : (b : Bool) (g : Field) → ((next : ℕ) → fields_at (n + j) s next ≡ follow (fields_at n s next) then)
+      by_field : (b : Bool) (g : Option Field) → ((next : ℕ) → fields_at (n + j) s next ≡ follow (fields_at n s next) then)
           → cond b (behind g (λ x next. push x (fields_at (n + j) s next))) malformed
           ≡ follow (cond b (behind g (λ x next. push x (fields_at n s next))) malformed) then
-      by_field true (Number x next) ih = ap (push x) (ih next) ∙ push_follow x (fields_at n s next)
-      by_field true Wrong ih = refl
+      by_field true (Some f) ih = ap (push f.value) (ih f.next) ∙ push_follow f.value (fields_at n s f.next)
+      by_field true None ih = refl
       by_field false g ih = refl
 
 largest_append : (m : ℕ) (xs ys : List ℕ) → largest_from m (xs ++ ys) ≡ largest_from (largest_from m xs) ys
@@ -64,7 +63,7 @@ largest_append m [] ys = refl
 largest_append m (x ∷ xs) ys = largest_append (cond (ltb m x) x m) xs ys
 
 run_joined : (m : ℕ) (xs : List ℕ) (o : Parsed) → run_from m (joined xs o) ≡ run_from (largest_from m xs) o
-run_joined m xs (parsed ys next) = ap (λ (l : ℕ). Fields l next) (largest_append m xs ys)
+run_joined m xs (parsed ys next) = ap (λ (l : ℕ). run l next) (largest_append m xs ys)
 run_joined m xs malformed = refl
 
 ended_joined : (s xs : List ℕ) (o : Parsed) → ended s (joined xs o) ≡ joined xs (ended s o)
@@ -80,11 +79,11 @@ module _ (s out : List ℕ) (at m : ℕ) (h : length out < 1) where
   z : length out ≡ 0
   z = omega arith
 
-  pub empty_run : (r : Run) → r ≡ end_of s at m → r ≡ run_from m (ended s (fields_at (length out) s at))
+  pub empty_run : (r : Option Run) → r ≡ end_of s at m → r ≡ run_from m (ended s (fields_at (length out) s at))
   unfolding fields_at
   empty_run r e = e ∙ rw z (by_end (eqb (get_or s at 0) 10 && eqb (length s) (at + 1)))
     where
-      by_end : (t : Bool) → cond t (Fields m at) Broken ≡ run_from m (cond t (parsed [] at) malformed)
+      by_end : (t : Bool) → cond t (run m at) None ≡ run_from m (cond t (parsed [] at) malformed)
       by_end true = refl
       by_end false = refl
 
@@ -105,10 +104,10 @@ module _ (s out front : List ℕ) (at m : ℕ) (b : length front ≤ length out)
   pub all_count : length front ≡ length out
   all_count = omega arith
 
-  pub all_run : (r : Run) → r ≡ end_of s at m → r ≡ run_from m (ended s (fields_at (length out - length front) s at))
+  pub all_run : (r : Option Run) → r ≡ end_of s at m → r ≡ run_from m (ended s (fields_at (length out - length front) s at))
   all_run r e = rw none_left (empty_run s [] at m (omega arith) r e)
 
-  pub all_list : (r : Run) (limit : ℕ) (t : Bool) (zs : List ℕ) → t ≡ below_limit r limit → zs ≡ cond t front out
+  pub all_list : (r : Option Run) (limit : ℕ) (t : Bool) (zs : List ℕ) → t ≡ below_limit r limit → zs ≡ cond t front out
       → zs ≡ cond (below_limit r limit) (front ++ numbers_of_of (fields_at (length out - length front) s at)) out
   unfolding fields_at
   all_list r limit t zs f g = rw (none_left, append-nil, ← f) g
@@ -130,7 +129,7 @@ module _ (s out front : List ℕ) (at m : ℕ) (b : length front ≤ length out)
   pub behind_falls : (t : ℕ) → 2 * (length out - n) + 1 ≡ t → 2 * length mid < t
   behind_falls t e = omega (arith, mid_long)
 
-  pub behind_run : (r : Run) → r ≡ run_from m (ended s (fields_at (length mid) s at)) → r ≡ run_from m (ended s (fields_at (length out - n) s at))
+  pub behind_run : (r : Option Run) → r ≡ run_from m (ended s (fields_at (length mid) s at)) → r ≡ run_from m (ended s (fields_at (length out - n) s at))
   behind_run r e = rw mid_long at e
 
   module _ (mid' : List ℕ) (same : length mid' ≡ length mid) where
@@ -158,7 +157,7 @@ module _ (s out front : List ℕ) (at m : ℕ) (b : length front ≤ length out)
     pub behind_count : n ≡ length (take n laid)
     behind_count = sym (ap length taken_is ∙ front_long)
 
-    pub behind_list : (r : Run) (limit : ℕ) (t : Bool) (zs : List ℕ) → mid' ≡ cond (below_limit r limit) (numbers_of_of (fields_at (length mid) s at)) mid
+    pub behind_list : (r : Option Run) (limit : ℕ) (t : Bool) (zs : List ℕ) → mid' ≡ cond (below_limit r limit) (numbers_of_of (fields_at (length mid) s at)) mid
         → t ≡ below_limit r limit → zs ≡ cond t front (take n laid)
         → zs ++ drop n laid ≡ cond (below_limit r limit) (front ++ numbers_of_of (fields_at (length out - n) s at)) out
     behind_list r limit t zs e f g =
@@ -207,21 +206,27 @@ module _ (s out room : List ℕ) (at m n : ℕ) (p : PartOf (length out) n) (siz
     pub front_falls : (t : ℕ) → 2 * length out ≡ t → 1 ≤ length out → 2 * (length out - length front) + 1 < t
     front_falls t e h = omega (arith, front_some h, front_within)
 
-    module _ (part : Run) (e : part ≡ run_from m (fields_at (length (take n room)) s at)) (q : Roomed (fields_at (length (take n room)) s at) ys) where
+    module _ (q : Roomed (fields_at (length (take n room)) s at) ys) where
       abbrev j : ℕ
       j = length out - length front
 
       parts : length out ≡ length (take n room) + j
       parts = omega (arith, front_count, part_count, p.within)
 
-      pub part_broken : part ≡ Broken → Broken ≡ run_from m (ended s (fields_at (length out) s at))
-      part_broken w = by_form (fields_at (length (take n room)) s at) refl (sym e ∙ w)
+      pub part_broken : None ≡ run_from m (fields_at (length (take n room)) s at) → None ≡ run_from m (ended s (fields_at (length out) s at))
+      part_broken e = by_form (fields_at (length (take n room)) s at) refl e
         where
-          by_form : (o : Parsed) → fields_at (length (take n room)) s at ≡ o → run_from m o ≡ Broken → Broken ≡ run_from m (ended s (fields_at (length out) s at))
+          by_form : (o : Parsed) → fields_at (length (take n room)) s at ≡ o → None ≡ run_from m o → None ≡ run_from m (ended s (fields_at (length out) s at))
           by_form malformed f g = rw (parts, two_parts j s (length (take n room)) at, f)
           by_form (parsed xs next) f g = let z : ◌≡◌ {A = ℕ} 0 1 = cc in absurd (omega arith)
 
-      module _ (m' next : ℕ) (w : part ≡ Fields m' next) where
+      module _ (part : Run) (e : Some part ≡ run_from m (fields_at (length (take n room)) s at)) where
+        abbrev m' : ℕ
+        m' = part.largest
+
+        abbrev next : ℕ
+        next = part.next
+
         record First : Type 0 where
           xs : List ℕ
           is : fields_at (length (take n room)) s at ≡ parsed xs next
@@ -229,19 +234,18 @@ module _ (s out room : List ℕ) (at m n : ℕ) (p : PartOf (length out) n) (siz
           low : ys ≡ lows xs
 
         first_part : First
-        first_part = by_form (fields_at (length (take n room)) s at) refl (sym e ∙ w) q
+        first_part = by_form (fields_at (length (take n room)) s at) refl e q
           where
-            by_form : (o : Parsed) → fields_at (length (take n room)) s at ≡ o → run_from m o ≡ Fields m' next → Roomed o ys → First
+            by_form : (o : Parsed) → fields_at (length (take n room)) s at ≡ o → Some part ≡ run_from m o → Roomed o ys → First
             by_form malformed f g h = let z : ◌≡◌ {A = ℕ} 0 1 = cc in absurd (omega arith)
             by_form (parsed xs then) f g h =
-                let a : then ≡ next = cc in
-                let b : m' ≡ largest_from m xs = cc in
-                record { xs = xs; is = f ∙ ap (parsed xs) a; most = b; low = h }
+                let a : part ≡ record { largest = largest_from m xs; next = then } = cc in
+                record { xs = xs; is = rw a f; most = rw a; low = h }
 
         all : fields_at (length out) s at ≡ joined first_part.xs (fields_at j s next)
         all = ap (λ (k : ℕ). fields_at k s at) parts ∙ two_parts j s (length (take n room)) at ∙ rw first_part.is
 
-        module _ (r : Run) (f : r ≡ run_from m' (ended s (fields_at j s next))) where
+        module _ (r : Option Run) (f : r ≡ run_from m' (ended s (fields_at j s next))) where
           pub whole_run : r ≡ run_from m (ended s (fields_at (length out) s at))
           whole_run =
               f ∙ ap (λ (l : ℕ). run_from l (ended s (fields_at j s next))) first_part.most
@@ -249,7 +253,7 @@ module _ (s out room : List ℕ) (at m n : ℕ) (p : PartOf (length out) n) (siz
               ∙ run_joined m first_part.xs (ended s (fields_at j s next)))
 
           whole_numbers : (limit : ℕ) → limit ≤ 4294967296 → below_limit r limit ≡ true → front ++ numbers_of_of (fields_at j s next) ≡ numbers_of_of (fields_at (length out) s at)
-          whole_numbers limit h b = by_form (fields_at j s next) refl (ap (λ (v : Run). below_limit v limit) (sym f) ∙ b)
+          whole_numbers limit h b = by_form (fields_at j s next) refl (ap (λ (v : Option Run). below_limit v limit) (sym f) ∙ b)
             where
               fits : (zs : List ℕ) → largest_from m' zs < limit → front ≡ first_part.xs
               fits zs l =

@@ -1,17 +1,16 @@
 -- 11: the range of a line's row, post and numbers.
-use Prim.Native.Nat.{ℕ, ◌≤◌, ◌<◌}
+use Prim.Native.Nat.{ℕ, ◌≤◌}
 use mathlib.Core.Path.{◌≡◌, refl, sym, ◌∙◌}
 use mathlib.Core.List.{List, [], ◌∷◌}
 use mathlib.Core.Bool.{Bool, true, false, not, cond, ◌||◌}
 use native.Mathlib.Omega.{arith}
-use borrow.Author.Tests.{lt-ltb, le-ltb, eq-eqb, ne_eqb, ltb-true, ltb-false}
+use borrow.Author.Tests.{lt-ltb, ltb-true, ltb-false}
 use lib.Dec.{ltb, eqb}
 use Rattle.field.specs.Modulus.{p}
 use Rattle.shape.specs.Bounds.{last_row_at, last_triple}
-use Rattle.refusal.specs.Conditions.{outside, beyond, any_beyond}
+use Rattle.refusal.specs.Conditions.{beyond, any_beyond}
 use Rattle.csv_fields.specs.Fields.{largest_from}
 use Rattle.forms.specs.Lines.{last_row_of}
-use Rattle.forms.specs.Forms.{out_of_range_of}
 
 pub last_row_le : (letter : ℕ) → last_row_of letter ≤ last_row_at
 last_row_le letter = go (eqb letter 77)
@@ -19,38 +18,6 @@ last_row_le letter = go (eqb letter 77)
     go : (b : Bool) → cond b last_triple last_row_at ≤ last_row_at
     go true = omega arith
     go false = omega arith
-
--- ---- 11
-or_true : (a b : Bool) → a || (b || true) ≡ true
-or_true true b = refl
-or_true false true = refl
-or_true false false = refl
-
-module _ (n letter row post largest : ℕ) where
-  abbrev broken : Bool
-  broken = out_of_range_of n letter row post (beyond largest)
-
-  pub largest_beyond : p ≤ largest → true ≡ broken
-  largest_beyond h = rw (le-ltb largest p h) (sym (or_true (ltb (last_row_of letter) row) (cond (eqb letter 68) false (outside 1 n post))))
-
-  module _ (h : largest < p) (last : ℕ) (l : last ≡ last_row_of letter) where
-    pub row_beyond : last < row → true ≡ broken
-    row_beyond r = rw (← l, lt-ltb last row r)
-
-    module _ (r : row ≤ last) where
-      pub deal_within : letter ≡ 68 → false ≡ broken
-      deal_within d = rw (lt-ltb largest p h, ← l, le-ltb last row r, eq-eqb letter 68 d)
-
-      module _ (d : letter ≡ 68 → ⊥) where
-        pub post_zero : post < 1 → true ≡ broken
-        post_zero b = rw (← l, le-ltb last row r, ne_eqb letter 68 d, lt-ltb post 1 b)
-
-        module _ (b : 1 ≤ post) where
-          pub post_beyond : n < post → true ≡ broken
-          post_beyond g = rw (← l, le-ltb last row r, ne_eqb letter 68 d, le-ltb post 1 b, lt-ltb n post g)
-
-          pub all_within : post ≤ n → false ≡ broken
-          all_within g = rw (lt-ltb largest p h, ← l, le-ltb last row r, ne_eqb letter 68 d, le-ltb post 1 b, le-ltb n post g)
 
 -- the largest number is an element where all are
 pub largest_any : (m : ℕ) (xs : List ℕ) → beyond m || any_beyond xs ≡ beyond (largest_from m xs)

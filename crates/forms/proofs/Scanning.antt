@@ -8,13 +8,11 @@ use borrow.Author.Tests.{eq-eqb, ne_eqb}
 use lib.ListN.{length, get_or, get_or-eq_default}
 use lib.Dec.{eqb}
 use Rattle.csv_fields.specs.declared.Run.{Run}
-use Rattle.csv_fields.specs.declared.Run.TheVariants.{Fields, Broken}
+use Rattle.std.specs.Prelude.{Some, None}
 use Rattle.csv_fields.specs.Fields.{Parsed, parsed, malformed, push, fields_at, ended, run_of}
 use Rattle.csv_fields.proofs.Single.{first_found, first_broken}
-use Rattle.forms.specs.declared.Head.{Head}
-use Rattle.forms.specs.declared.Head.TheVariants.{Right}
 use Rattle.forms.specs.Forms.{is_letter, number_count_of, field_count, form_of}
-use Rattle.forms.specs.Between.{before, HeadOf}
+use Rattle.forms.specs.Between.{before, Headed}
 
 -- ---- the letter
 module _ (k b count : ℕ) (h : 1 ≤ k) (e : count ≡ cond (is_letter b) (number_count_of k b) 0) where
@@ -60,7 +58,7 @@ module _ (k : ℕ) (s : List ℕ) where
     unfolding form_of
     scan_letter g = rw (no_letter k (get_or s 0 0) count h c g)
 
-    module _ (g : 1 ≤ count) (r : Run) (e : r ≡ run_of (fields_at 1 s 1)) where
+    module _ (g : 1 ≤ count) where
       fields_are : (j : ℕ) → field_count k (get_or s 0 0) ≡ j → form_of k s ≡ ended s (fields_at j s 1)
       unfolding form_of
       fields_are j q = rw ((letter_there k (get_or s 0 0) count h c g).0, q)
@@ -76,13 +74,19 @@ module _ (k : ℕ) (s : List ℕ) where
           go true q = omega arith
           go false q = omega arith
 
-      pub scan_no_row : r ≡ Broken → form_of k s ≡ malformed
-      scan_no_row w = fields_are (suc left) one_more ∙ ap (ended s) (first_broken left s 1 r e w)
+      pub scan_no_row : None ≡ run_of (fields_at 1 s 1) → form_of k s ≡ malformed
+      scan_no_row e = fields_are (suc left) one_more ∙ ap (ended s) (first_broken left s 1 e)
 
-      module _ (row next : ℕ) (w : r ≡ Fields row next) where
+      module _ (r : Run) (e : Some r ≡ run_of (fields_at 1 s 1)) where
+        abbrev row : ℕ
+        row = r.largest
+
+        abbrev next : ℕ
+        next = r.next
+
         behind_row_lem : form_of k s ≡ before (row ∷ []) (ended s (fields_at left s next))
         behind_row_lem =
-            fields_are (suc left) one_more ∙ ap (ended s) (first_found left s 1 r e row next w) ∙ ended_push s row (fields_at left s next)
+            fields_are (suc left) one_more ∙ ap (ended s) (first_found left s 1 r e) ∙ ended_push s row (fields_at left s next)
 
         enough : count ≤ 2 * k
         enough = by_letter_lem (eqb (get_or s 0 0) 68) (eqb (get_or s 0 0) 79) (letter_there k (get_or s 0 0) count h c g).1
@@ -92,28 +96,26 @@ module _ (k : ℕ) (s : List ℕ) where
             by_letter_lem false true q = omega arith
             by_letter_lem false false q = omega arith
 
-        pub scan_deal : (v : Head) → get_or s 0 0 ≡ 68 → v ≡ Right (get_or s 0 0) row 0 next count → HeadOf k s v
-        scan_deal v d q =
+        pub scan_deal : get_or s 0 0 ≡ 68 → Headed k s (get_or s 0 0) row 0 next count
+        scan_deal d =
             let z : 0 + count ≡ count = omega arith in
-            rw q
             record { letter_is = refl; post_is = λ u. refl; few = enough; all = behind_row_lem ∙ rw (eq-eqb (get_or s 0 0) 68 d, z) }
 
-        module _ (d : get_or s 0 0 ≡ 68 → ⊥) (p : Run) (f : p ≡ run_of (fields_at 1 s next)) where
+        module _ (d : get_or s 0 0 ≡ 68 → ⊥) where
           one : left ≡ suc count
           one = rw (ne_eqb (get_or s 0 0) 68 d) (omega arith)
 
-          pub scan_no_post : p ≡ Broken → form_of k s ≡ malformed
-          scan_no_post u = behind_row_lem ∙ rw (one, first_broken count s next p f u)
+          pub scan_no_post : None ≡ run_of (fields_at 1 s next) → form_of k s ≡ malformed
+          scan_no_post f = behind_row_lem ∙ rw (one, first_broken count s next f)
 
-          pub scan_posted : (v : Head) (post at : ℕ) → p ≡ Fields post at → v ≡ Right (get_or s 0 0) row post at count → HeadOf k s v
-          scan_posted v post at u q =
-              rw q
+          pub scan_posted : (p : Run) → Some p ≡ run_of (fields_at 1 s next) → Headed k s (get_or s 0 0) row p.largest p.next count
+          scan_posted p f =
               record {
                 letter_is = refl;
                 post_is = λ x. absurd (d x);
                 few = enough;
                 all =
                     behind_row_lem
-                    ∙ rw (one, first_found count s next p f post at u, ended_push s post (fields_at count s at), ne_eqb (get_or s 0 0) 68 d)
-                    (before_before row post (ended s (fields_at count s at)));
+                    ∙ rw (one, first_found count s next p f, ended_push s p.largest (fields_at count s p.next), ne_eqb (get_or s 0 0) 68 d)
+                    (before_before row p.largest (ended s (fields_at count s p.next)));
               }

@@ -1,15 +1,15 @@
 -- A line gets 10 exactly where it is not the text of a letter and its numbers.
-use Prim.Native.Nat.{ℕ, ◌+◌, ◌*◌}
-use mathlib.Core.Path.{◌≡◌, refl, sym, ◌∙◌, ap}
+use Prim.Native.Nat.{ℕ}
+use mathlib.Core.Path.{◌≡◌, refl}
 use mathlib.Core.Logic.{inl, inr}
-use mathlib.Core.Bool.{Bool, true, false, cond}
+use mathlib.Core.Bool.{Bool, true, false}
 use mathlib.Core.List.{List}
 use native.Mathlib.Omega.{arith}
 use borrow.Author.Tests.{eqb-true}
 use lib.Dec.{eqb}
 use lib.ListN.{length, get_or}
 use Rattle.csv_fields.specs.Fields.{written, Parsed, parsed, malformed, Small}
-use Rattle.forms.specs.Forms.{is_letter, number_count_of, field_count, form_of, is_malformed}
+use Rattle.forms.specs.Forms.{is_letter, field_count, form_of, is_malformed}
 use Rattle.forms.specs.Ten.{FieldsOf, Spelled, TenMeans}
 use Rattle.forms.proofs.Forms.{form_spelled, form_read}
 

@@ -1,10 +1,8 @@
 -- Between the functions of the code: what one learns of a line and hands to the next. No theorem is stated with these.
-use Rattle.std.specs.Prelude.{ℕ, ◌*◌, ◌≤◌, ◌≡◌, List, [], ◌∷◌, ◌++◌, Bool, false, cond, get_or, eqb, ltb}
+use Rattle.std.specs.Prelude.{Option, Some, None, ℕ, ◌*◌, ◌≤◌, ◌≡◌, List, [], ◌∷◌, ◌++◌, Bool, false, cond, get_or, eqb, ltb}
 use Rattle.csv_fields.specs.declared.Run.{Run}
-use Rattle.csv_fields.specs.declared.Run.TheVariants.{Fields, Broken}
 use Rattle.csv_fields.specs.Fields.{Parsed, parsed, malformed, fields_at, ended}
 use Rattle.forms.specs.declared.Head.{Head}
-use Rattle.forms.specs.declared.Head.TheVariants.{Right, Wrong}
 use Rattle.forms.specs.Forms.{form_of}
 
 -- The row and the post of a line, as fields.
@@ -24,14 +22,14 @@ pub record Headed (k : ℕ) (s : List ℕ) (letter row post at count : ℕ) : Ty
   pub all : form_of k s ≡ before (head_of letter row post) (ended s (fields_at count s at))
 
 -- What the head of a line tells.
-abbrev pub HeadOf : ℕ → List ℕ → Head → Type 0
-HeadOf k s (Right letter row post at count) = Headed k s letter row post at count
-HeadOf k s Wrong = form_of k s ≡ malformed
+abbrev pub HeadOf : ℕ → List ℕ → Option Head → Type 0
+HeadOf k s (Some h) = Headed k s h.letter h.row h.post h.at h.count
+HeadOf k s None = form_of k s ≡ malformed
 
 -- Whether the numbers of a run of fields stay below a limit.
-abbrev pub below_limit : Run → ℕ → Bool
-below_limit (Fields largest next) limit = ltb largest limit
-below_limit Broken limit = false
+abbrev pub below_limit : Option Run → ℕ → Bool
+below_limit (Some r) limit = ltb r.largest limit
+below_limit None limit = false
 
 -- So many numbers of a line wait in one room. No answer depends on it.
 abbrev pub room_size : ℕ

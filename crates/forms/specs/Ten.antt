@@ -1,6 +1,6 @@
 -- Refusal 10, "wrong form: letter, field count, digits, no final line feed", told by the text: a line of the right form is the letter with its
 -- fields, each behind a comma, and a line feed, whatever its numbers are; 11 then looks at these. Proved in proofs/Told.antt.
-use Rattle.std.specs.Prelude.{ℕ, ◌+◌, ◌*◌, ◌<◌, ◌≡◌, ◌⊎◌, false, List, length}
+use Rattle.std.specs.Prelude.{ℕ, ◌+◌, ◌*◌, ◌≡◌, ◌⊎◌, false, List, length}
 use Rattle.csv_fields.specs.Fields.{written, Small}
 use Rattle.forms.specs.Forms.{form_of, is_malformed}
 

@@ -4,7 +4,6 @@
 ghost use Rattle.std.specs.Prelude.{◌≡◌, cond, ◌++◌, ◌-◌, ◌≤◌, length, replicate};
 ghost use Rattle.refusal.specs.Conditions.{beyond};
 ghost use Rattle.csv_fields.specs.Fields.{fields_at, ended, run_of, run_from, numbers_of_of, padded};
-ghost use Rattle.forms.specs.declared.Head.TheVariants.{Right};
 ghost use Rattle.forms.specs.Lines.{last_row_of};
 ghost use Rattle.forms.specs.Forms.{is_letter, number_count_of, out_of_range_of};
 ghost use Rattle.forms.specs.Between.{HeadOf, below_limit, PartOf};
@@ -13,27 +12,12 @@ use csv_fields::{Run, short};
 
 // What the head of a line tells: where its numbers stand behind row and post, and how many they are.
 #[derive(Clone, Copy)]
-pub enum Head {
-    Right {
-        letter: u8,
-        row: u64,
-        post: u64,
-        at: usize,
-        count: usize,
-    },
-    Wrong,
-}
-
-fn right(letter: u8, row: u64, post: u64, at: usize, count: usize) -> Head
-    ensures { result ≡ Right letter row post at count }
-{
-    Head::Right {
-        letter,
-        row,
-        post,
-        at,
-        count,
-    }
+pub struct Head {
+    pub letter: u8,
+    pub row: u64,
+    pub post: u64,
+    pub at: usize,
+    pub count: usize,
 }
 
 // "row above 95, or a triple's first above 93".
@@ -52,78 +36,62 @@ fn number_count(letter: u8, k: usize) -> usize
     requires { k ≤ 4294967296 }
     ensures { result ≡ cond (is_letter letter) (number_count_of k letter) 0 }
 {
-    if letter == b'D' {
-        return 1;
+    match letter {
+        b'D' => 1,
+        b'O' => k,
+        b'M' => 2 * k,
+        _ => 0,
     }
-    if letter == b'O' {
-        return k;
-    }
-    if letter == b'M' {
-        return 2 * k;
-    }
-    0
 }
 
 // The head of a line: its letter, row and post, and where its numbers stand.
-pub fn head_of(line: &[u8], k: usize) -> Head
+#[tactic(auto, using(crate::proofs::Scanning::scan_empty, crate::proofs::Scanning::scan_letter, crate::proofs::Scanning::scan_no_row, crate::proofs::Scanning::scan_deal, crate::proofs::Scanning::scan_no_post, crate::proofs::Scanning::scan_posted))]
+pub fn head_of(line: &[u8], k: usize) -> Option<Head>
     requires { (1 ≤ k) × (k ≤ 4294967296) }
     ensures { HeadOf k line.now result }
 {
     if line.len() < 1 {
-        return Head::Wrong;
+        return None;
     }
     let letter = line[0];
     let count = number_count(letter, k);
     if count < 1 {
-        return Head::Wrong;
+        return None;
     }
-    let run = short::one_field(line, 1);
-    match run {
-        Run::Fields { largest, next } => {
-            let row = largest;
-            if letter == b'D' {
-                return right(letter, row, 0, next, count);
-            }
-            let second = short::one_field(line, next);
-            match second {
-                Run::Fields { largest, next } => right(letter, row, largest, next, count),
-                Run::Broken => Head::Wrong,
-            }
-        }
-        Run::Broken => Head::Wrong,
+    let row = short::one_field(line, 1)?;
+    if letter == b'D' {
+        return Some(Head {
+            letter,
+            row: row.largest,
+            post: 0,
+            at: row.next,
+            count,
+        });
     }
+    let post = short::one_field(line, row.next)?;
+    Some(Head {
+        letter,
+        row: row.largest,
+        post: post.largest,
+        at: post.next,
+        count,
+    })
 }
 
 // 11, of a line's row and post and the largest of its numbers.
 pub fn out_of_range(n: usize, letter: u8, row: u64, post: u64, largest: u64) -> bool
     ensures { result ≡ out_of_range_of n letter row post (beyond largest) }
 {
-    if 2147483647 <= largest {
-        return true;
-    }
-    if (last_row(letter) as u64) < row {
-        return true;
-    }
-    if letter == b'D' {
-        return false;
-    }
-    if post < 1 {
-        return true;
-    }
-    if (n as u64) < post {
-        return true;
-    }
-    false
+    2147483647 <= largest
+        || (last_row(letter) as u64) < row
+        || letter != b'D' && (post < 1 || (n as u64) < post)
 }
 
 // Whether the numbers of fields stay below a limit.
-fn below(run: Run, limit: u64) -> bool
+fn below(run: Option<Run>, limit: u64) -> bool
     ensures { result ≡ below_limit run limit }
 {
-    match run {
-        Run::Fields { largest, next: _ } => largest < limit,
-        Run::Broken => false,
-    }
+    run.is_some_and(|run| run.largest < limit)
 }
 
 // How many numbers of a line wait in one room until the line's end is seen.
@@ -156,7 +124,7 @@ fn read_behind(
     limit: u64,
     front: &[u32],
     out: &mut [u32],
-) -> Run
+) -> Option<Run>
     requires { (limit ≤ 4294967296) × (1 ≤ length front.now) × (length front.now ≤ length out.old) }
     ensures value { result ≡ run_from largest (ended line.now (fields_at (length out.old - length front.now) line.now at)) }
     ensures out_after { out.new
@@ -177,7 +145,7 @@ fn read_behind(
 // The last fields of a line, as many as the list has places: what they are like, and their numbers, if all stay below a limit.
 // They are read once, a part after the other, each into a room of its own: the list takes them when the line's end is seen.
 #[cycle(read_behind_read_fields)]
-pub fn read_fields(line: &[u8], at: usize, largest: u64, limit: u64, out: &mut [u32]) -> Run
+pub fn read_fields(line: &[u8], at: usize, largest: u64, limit: u64, out: &mut [u32]) -> Option<Run>
     requires { limit ≤ 4294967296 }
     ensures value { result ≡ run_from largest (ended line.now (fields_at (length out.old) line.now at)) }
     ensures out_after { out.new
@@ -188,13 +156,11 @@ pub fn read_fields(line: &[u8], at: usize, largest: u64, limit: u64, out: &mut [
     }
     let mut room = [0u32; ROOM_SIZE];
     let n = part_of(out.len());
-    let part = csv_fields::read_part(line, at, largest, &mut room[..n]);
-    match part {
-        Run::Fields { largest, next } => read_behind(line, next, largest, limit, &room[..n], out),
-        Run::Broken => Run::Broken,
-    }
+    let part = csv_fields::read_part(line, at, largest, &mut room[..n])?;
+    read_behind(line, part.next, part.largest, limit, &room[..n], out)
 }
 
+#[tactic(auto, using(crate::proofs::Fronts::clear_kept))]
 fn clear_if(kept: bool, list: &mut [u32])
     ensures { list.new ≡ cond kept (replicate (length list.old) 0) list.old }
 {
@@ -204,7 +170,7 @@ fn clear_if(kept: bool, list: &mut [u32])
 }
 
 // The same at the start of a list, for `count` fields, and 0 in the places behind.
-pub fn read_front(line: &[u8], at: usize, limit: u64, count: usize, out: &mut [u32]) -> Run
+pub fn read_front(line: &[u8], at: usize, limit: u64, count: usize, out: &mut [u32]) -> Option<Run>
     requires { (limit ≤ 4294967296) × (count ≤ length out.old) }
     ensures value { result ≡ run_of (ended line.now (fields_at count line.now at)) }
     ensures out_after { out.new

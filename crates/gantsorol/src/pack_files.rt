@@ -20,7 +20,7 @@ pub extern "C" fn gantsorol_factory_row(
     ensures value { result ≡ factory_row_refusal n t points ws.now draw.now out.old }
     ensures out_after { out.new ≡ factory_row_out n t points ws.now draw.now out.old }
 {
-    factory::row(n, t, points, ws, draw, out)
+    refusal::number_of(factory::row(n, t, points, ws, draw, out))
 }
 
 #[unsafe(no_mangle)]
@@ -35,7 +35,7 @@ pub extern "C" fn gantsorol_factory_triple(
     ensures value { result ≡ factory_triple_refusal n t points ws.now draw.now out.old }
     ensures out_after { out.new ≡ factory_triple_out n t points ws.now draw.now out.old }
 {
-    factory::triple(n, t, points, ws, draw, out)
+    refusal::number_of(factory::triple(n, t, points, ws, draw, out))
 }
 
 #[unsafe(no_mangle)]

@@ -14,7 +14,7 @@ pub extern "C" fn gantsorol_record_put(
     ensures value { result ≡ put_refusal_of n t points blocks.old post message.now }
     ensures blocks_after { blocks.new ≡ put_record n t points blocks.old post message.now }
 {
-    records::put(n, t, points, blocks, post, message)
+    refusal::number_of(records::put(n, t, points, blocks, post, message))
 }
 
 #[unsafe(no_mangle)]
@@ -28,5 +28,5 @@ pub extern "C" fn gantsorol_record_remove(
     ensures value { result ≡ place_refusal_of n t points blocks.old post }
     ensures blocks_after { blocks.new ≡ removed_record n t points blocks.old post }
 {
-    records::remove(n, t, points, blocks, post)
+    refusal::number_of(records::remove(n, t, points, blocks, post))
 }

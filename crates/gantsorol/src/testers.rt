@@ -18,5 +18,6 @@ pub extern "C" fn gantsorol_other_draw(
     ensures out_after { out.new
         ≡ other_out n t points ws.now draw.now secret wanted posts.now out.old }
 {
-    otherdraw::find(n, t, points, ws, draw, secret, wanted, posts, out)
+    let found = otherdraw::find(n, t, points, ws, draw, secret, wanted, posts, out);
+    refusal::number_of(found)
 }

@@ -9,7 +9,7 @@ pub extern "C" fn gantsorol_new_state(state: &mut [u8]) -> u8
     ensures value { result ≡ new_state_refusal state.old }
     ensures state_after { state.new ≡ new_state_after state.old }
 {
-    dealers::new_state(state)
+    refusal::number_of(dealers::new_state(state))
 }
 
 #[unsafe(no_mangle)]
@@ -17,7 +17,7 @@ pub extern "C" fn gantsorol_place(state: &mut [u8], dealer: usize, line: &[u8]) 
     ensures value { result ≡ place_refusal_of state.old dealer (length line.now) }
     ensures state_after { state.new ≡ place_after_of state.old dealer line.now }
 {
-    dealers::place(state, dealer, line)
+    refusal::number_of(dealers::place(state, dealer, line))
 }
 
 #[unsafe(no_mangle)]

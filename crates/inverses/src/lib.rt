@@ -1,5 +1,8 @@
 // The inverses of 1 to 255 modulo p. No entry is trusted: the rule is a test over the whole table, which the proofs of `to_255`,
 // `few::to_32` and `very_few::to_8` compute (`inverts` in proofs/Entries.antt).
+//
+// Three tables and no generic one: a function over the length would read the longest one, and whoever uses a constant builds it anew, which
+// costs small stations more than the rest of an opening (`few`).
 #![tactic(auto)]
 
 ghost use Rattle.std.specs.Prelude.{◌≡◌, length};

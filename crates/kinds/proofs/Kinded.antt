@@ -1,98 +1,145 @@
 -- The kinds of rows: the tests of one row, the search among all rows, and how much is drawn for them.
 use Prim.Native.Nat.{ℕ, suc, ◌+◌, ◌*◌, ◌≤◌, ◌<◌}
-use mathlib.Core.Path.{◌≡◌, sym, ◌∙◌, ap}
-use mathlib.Core.Bool.{Bool, true, false, not, cond}
+use mathlib.Core.Path.{◌≡◌, refl, sym, ◌∙◌, ap, subst}
+use mathlib.Core.Bool.{Bool, true, false, not, ◌||◌, ◌&&◌, cond}
 use mathlib.Core.List.{List, [], ◌∷◌}
 use native.Mathlib.Numerals.{add-one}
 use native.Mathlib.Nat.{suc-mul}
 use native.Mathlib.Omega.{arith}
-use borrow.Author.Tests.{eq-eqb, ne_eqb}
 use mir.Syntax.{w64}
 use mir.Val.{Fits}
-use lib.Dec.{eqb, ltb}
-use lib.ListN.{length, drop, get_or, drop_of_length-le}
-use lib.Seq.{drop-cons, get_or-drop}
+use lib.Dec.{eqb}
+use lib.ListN.{length, take, drop, get_or, drop_of_length-le}
+use lib.Seq.{drop-cons}
+use Rattle.std.specs.Prelude.{Result, Ok, Err}
+use Rattle.std.specs.List.{list_any}
 use Rattle.shape.specs.declared.Shape.{Shape}
-use Rattle.shape.specs.Bounds.{most_posts, longest_row, last_triple, row_count_of}
+use Rattle.shape.specs.Bounds.{most_posts, longest_row, row_count_of}
 use Rattle.shape.specs.Lengths.{Valid, v_length, draw_length, triple_draw_length}
 use Rattle.shape.specs.Marks.{empty, raw, unused}
 use Rattle.shape.proofs.Small.{each_small}
 use Rattle.refusal.specs.Refusal.{◌when◌, first}
-use Rattle.kinds.specs.Kinds.{drawn_for_of, draws_length, any_row, late, crowded, unknown}
+use Rattle.refusal.specs.declared.Refusal.{Refusal}
+use Rattle.refusal.specs.declared.Refusal.TheVariants.{NotAnElement}
+use Rattle.refusal.specs.Numbers.{number}
+use Rattle.kinds.specs.declared.Kind.{Kind}
+use Rattle.kinds.specs.declared.Kind.TheVariants.{Empty, Raw, Triple}
+use Rattle.kinds.specs.Kinds.{kind_of, drawn_for_of, draws_length, any_row, crowded, unknown}
 
--- ---- one row
-module _ (row k : ℕ) (ks : List ℕ) where
-  pub not_late : (k ≡ unused → ⊥) → false ≡ late row k ks
-  unfolding late
-  not_late h = rw (ne_eqb k unused h)
+-- ---- what a byte names
 
-  pub late_triple : k ≡ unused → ltb last_triple row ≡ late row k ks
-  unfolding late
-  late_triple h = rw (eq-eqb k unused h)
+module _ {A : Type 0} (u v w : A) where
+  abbrev by_kind : Result Kind Refusal → A
+  by_kind (Ok Empty) = w
+  by_kind (Ok Raw) = u
+  by_kind (Ok Triple) = v
+  by_kind (Err r) = w
 
-  pub not_crowded : (k ≡ unused → ⊥) → false ≡ crowded row k ks
-  unfolding crowded
-  not_crowded h = rw (ne_eqb k unused h)
+  by_byte : (k : ℕ) → cond (eqb k raw) u (cond (eqb k unused) v w) ≡ by_kind (kind_of k)
+  by_byte k = go (eqb k raw) (eqb k unused) (eqb k empty)
+    where
+      go : (a b c : Bool) → cond a u (cond b v w) ≡ by_kind (cond a (Ok Raw) (cond b (Ok Triple) (cond c (Ok Empty) (Err NotAnElement))))
+      go true b c = refl
+      go false true c = refl
+      go false false true = refl
+      go false false false = refl
 
-  pub empty_known : k ≡ empty → false ≡ unknown row k ks
+  module _ (k : ℕ) (x : Result Kind Refusal) (e : x ≡ kind_of k) where
+    named : cond (eqb k raw) u (cond (eqb k unused) v w) ≡ by_kind x
+    named = by_byte k ∙ ap by_kind (sym e)
+
+    pub of_raw : (d : Kind) → x ≡ Ok d → d ≡ Raw → cond (eqb k raw) u (cond (eqb k unused) v w) ≡ u
+    of_raw d f g = named ∙ ap by_kind (f ∙ ap Ok g)
+
+    pub of_triple : (d : Kind) → x ≡ Ok d → d ≡ Triple → cond (eqb k raw) u (cond (eqb k unused) v w) ≡ v
+    of_triple d f g = named ∙ ap by_kind (f ∙ ap Ok g)
+
+    pub of_empty : x ≡ Ok Empty → cond (eqb k raw) u (cond (eqb k unused) v w) ≡ w
+    of_empty f = named ∙ ap by_kind f
+
+    pub of_none : (r : Refusal) → x ≡ Err r → cond (eqb k raw) u (cond (eqb k unused) v w) ≡ w
+    of_none r f = named ∙ ap by_kind f
+
+-- the two rows that a triple covers
+pub crowded_is : (row k : ℕ) (ks : List ℕ) → (eqb k unused && list_any (λ k. not (eqb k empty)) (take 2 ks)) ≡ crowded row k ks
+unfolding crowded
+crowded_is row k [] = refl
+crowded_is row k (x ∷ []) = refl
+crowded_is row k (x ∷ y ∷ ks) = ap (λ (b : Bool). eqb k unused && (not (eqb x empty) || b)) (alone (not (eqb y empty)))
+  where
+    alone : (b : Bool) → b || false ≡ b
+    alone true = refl
+    alone false = refl
+
+-- an unknown kind, which gets 8
+module _ (row k : ℕ) (ks : List ℕ) (x : Result Kind Refusal) (e : x ≡ kind_of k) where
+  abbrev refused_is : Result Kind Refusal → Bool → Type 0
+  refused_is (Ok d) b = b ≡ false
+  refused_is (Err r) b = (number r ≡ 8) × (b ≡ true)
+
+  told : refused_is x (unknown row k ks)
   unfolding unknown
-  empty_known h = rw (eq-eqb k empty h)
+  told = subst (λ (y : Result Kind Refusal). refused_is y (unknown row k ks)) (sym e) (go (eqb k raw) (eqb k unused) (eqb k empty))
+    where
+      go : (a b c : Bool) → refused_is (cond a (Ok Raw) (cond b (Ok Triple) (cond c (Ok Empty) (Err NotAnElement)))) (not c && (not a && not b))
+      go true b true = refl
+      go true b false = refl
+      go false true true = refl
+      go false true false = refl
+      go false false true = refl
+      go false false false = (refl, refl)
 
-  pub raw_known : (k ≡ empty → ⊥) → k ≡ raw → false ≡ unknown row k ks
-  unfolding unknown
-  raw_known g h = rw (ne_eqb k empty g, eq-eqb k raw h)
+  pub known : (d : Kind) → x ≡ Ok d → unknown row k ks ≡ false
+  known d f = subst (λ (y : Result Kind Refusal). refused_is y (unknown row k ks)) f told
 
-  pub other_unknown : (k ≡ empty → ⊥) → (k ≡ raw → ⊥) → not (eqb k unused) ≡ unknown row k ks
-  unfolding unknown
-  other_unknown g h = rw (ne_eqb k empty g, ne_eqb k raw h)
-
-module _ (kinds : List ℕ) (row a : ℕ) (h : get_or kinds row 0 ≡ unused) (e : a ≡ get_or kinds (row + 1) 0) where
-  second_kind : get_or (drop (row + 1) kinds) 0 0 ≡ a
-  second_kind = get_or-drop (row + 1) kinds 0 0 ∙ ap (λ (i : ℕ). get_or kinds i 0) (omega arith) ∙ sym e
-
-  pub second_crowded : (a ≡ empty → ⊥) → true ≡ crowded row (get_or kinds row 0) (drop (row + 1) kinds)
-  unfolding crowded
-  second_crowded n = rw (eq-eqb (get_or kinds row 0) unused h, second_kind, ne_eqb a empty n)
-
-  pub third_crowded : (b : ℕ) → a ≡ empty → b ≡ get_or kinds (row + 2) 0
-      → not (eqb b empty) ≡ crowded row (get_or kinds row 0) (drop (row + 1) kinds)
-  unfolding crowded
-  third_crowded b z f =
-      let t : get_or (drop (row + 1) kinds) 1 0 ≡ b =
-      get_or-drop (row + 1) kinds 1 0 ∙ ap (λ (i : ℕ). get_or kinds i 0) (omega arith) ∙ sym f in
-      rw (eq-eqb (get_or kinds row 0) unused h, second_kind, t, eq-eqb a empty z)
+  pub unknown_is : (r : Refusal) → x ≡ Err r → (number r ≡ 8) × (unknown row k ks ≡ true)
+  unknown_is r f = subst (λ (y : Result Kind Refusal). refused_is y (unknown row k ks)) f told
 
 -- ---- the search: the answer for the rows from i on is the answer for all
-module _ (test : ℕ → ℕ → List ℕ → Bool) (number : ℕ) (l : List ℕ) (i : ℕ) (all : Bool) (inv : any_row test i (drop i l) ≡ all) where
-  pub row_found : (b : Bool) → i < length l → b ≡ test i (get_or l i 0) (drop (i + 1) l) → b ≡ true → number ≡ first (number when all ∷ [])
+module _ (test : ℕ → ℕ → List ℕ → Bool) (l : List ℕ) (i : ℕ) (all : Bool) (inv : any_row test i (drop i l) ≡ all) where
+  pub row_found : (m : ℕ) → i < length l → test i (get_or l i 0) (drop (i + 1) l) ≡ true → m ≡ first (m when all ∷ [])
   unfolding any_row
-  row_found b h e t =
-      let f : test i (get_or l i 0) (drop (suc i) l) ≡ true = rw (← add-one i) (sym e ∙ t) in
+  row_found m h t =
+      let f : test i (get_or l i 0) (drop (suc i) l) ≡ true = rw (← add-one i) t in
       rw (← inv, drop-cons l i 0 h, f)
 
-  pub row_passed : (b : Bool) → i < length l → b ≡ test i (get_or l i 0) (drop (i + 1) l) → b ≡ false → any_row test (i + 1) (drop (i + 1) l) ≡ all
+  pub row_passed : i < length l → test i (get_or l i 0) (drop (i + 1) l) ≡ false → any_row test (i + 1) (drop (i + 1) l) ≡ all
   unfolding any_row
-  row_passed b h e t =
-      let f : test i (get_or l i 0) (drop (suc i) l) ≡ false = rw (← add-one i) (sym e ∙ t) in
+  row_passed h t =
+      let f : test i (get_or l i 0) (drop (suc i) l) ≡ false = rw (← add-one i) t in
       rw (add-one i) (rw (drop-cons l i 0 h, f) at inv)
 
-  pub rows_ended : length l ≤ i → 0 ≡ first (number when all ∷ [])
+  pub rows_ended : (m : ℕ) → length l ≤ i → 0 ≡ first (m when all ∷ [])
   unfolding any_row
-  rows_ended h = rw (← inv, drop_of_length-le l h)
+  rows_ended m h = rw (← inv, drop_of_length-le l h)
+
+-- as a kind is read
+module _ (l : List ℕ) (i : ℕ) (all : Bool) (x : Result Kind Refusal) (h : i < length l) (e : x ≡ kind_of (get_or l i 0)) (inv : any_row unknown i (drop i l) ≡ all) where
+  pub kind_unknown : (r : Refusal) → x ≡ Err r → number r ≡ first (8 when all ∷ [])
+  kind_unknown r f =
+      let (eight, t) = unknown_is i (get_or l i 0) (drop (i + 1) l) x e r f in
+      eight ∙ row_found unknown l i all inv 8 h t
+
+  pub kind_known : (d : Kind) → x ≡ Ok d → any_row unknown (i + 1) (drop (i + 1) l) ≡ all
+  kind_known d f = row_passed unknown l i all inv h (known i (get_or l i 0) (drop (i + 1) l) x e d f)
 
 -- ---- what is drawn
-module _ (s : Shape) (k r : ℕ) where
-  pub drawn_raw_is : k ≡ raw → r ≡ draw_length s → r ≡ drawn_for_of s k
+module _ (s : Shape) (k r : ℕ) (x : Result Kind Refusal) (e : x ≡ kind_of k) where
+  pub drawn_raw_is : (d : Kind) → x ≡ Ok d → d ≡ Raw → r ≡ draw_length s → r ≡ drawn_for_of s k
   unfolding drawn_for_of
-  drawn_raw_is h e = rw (eq-eqb k raw h) e
+  drawn_raw_is d f g h = h ∙ sym (of_raw (draw_length s) (triple_draw_length s) 0 k x e d f g)
 
-  pub drawn_triple_is : (k ≡ raw → ⊥) → k ≡ unused → r ≡ triple_draw_length s → r ≡ drawn_for_of s k
+  pub drawn_triple_is : (d : Kind) → x ≡ Ok d → d ≡ Triple → r ≡ triple_draw_length s → r ≡ drawn_for_of s k
   unfolding drawn_for_of
-  drawn_triple_is g h e = rw (ne_eqb k raw g, eq-eqb k unused h) e
+  drawn_triple_is d f g h = h ∙ sym (of_triple (draw_length s) (triple_draw_length s) 0 k x e d f g)
 
-  pub drawn_none : (k ≡ raw → ⊥) → (k ≡ unused → ⊥) → 0 ≡ drawn_for_of s k
+  pub drawn_empty : x ≡ Ok Empty → 0 ≡ drawn_for_of s k
   unfolding drawn_for_of
-  drawn_none g h = rw (ne_eqb k raw g, ne_eqb k unused h)
+  drawn_empty f = sym (of_empty (draw_length s) (triple_draw_length s) 0 k x e f)
+
+  pub drawn_none : (y : Refusal) → x ≡ Err y → 0 ≡ drawn_for_of s k
+  unfolding drawn_for_of
+  drawn_none y f = sym (of_none (draw_length s) (triple_draw_length s) 0 k x e y f)
 
 abbrev most_drawn : ℕ
 most_drawn = 3 * (most_posts + most_posts * longest_row)
@@ -130,14 +177,11 @@ pub record Tallied (s : Shape) (kinds : List ℕ) (sum row : ℕ) : Type 0 where
 pub tallied_start : (s : Shape) (kinds : List ℕ) → Valid s → length kinds ≡ row_count_of → Tallied s kinds 0 0
 tallied_start s kinds v e = record { valid = v; rows = e; within = omega arith; says = omega arith }
 
-module _ (s : Shape) (kinds : List ℕ) (sum row : ℕ) (inv : Tallied s kinds sum row) (k r : ℕ) (h : row < length kinds)
-    (q : k ≡ get_or kinds row 0) (e : r ≡ drawn_for_of s k) where
-  same_kind : r ≡ drawn_for_of s (get_or kinds row 0)
-  same_kind = e ∙ ap (drawn_for_of s) q
-
+module _ (s : Shape) (kinds : List ℕ) (sum row : ℕ) (inv : Tallied s kinds sum row) (r : ℕ) (h : row < length kinds)
+    (e : r ≡ drawn_for_of s (get_or kinds row 0)) where
   pub tallied_fits : Fits w64 (sum + r)
   tallied_fits =
-      record { fits = omega (arith, inv.says, inv.rows, draws_next s kinds row h, draws_small s kinds inv.valid, same_kind) }
+      record { fits = omega (arith, inv.says, inv.rows, draws_next s kinds row h, draws_small s kinds inv.valid, e) }
 
   pub tallied_more : Tallied s kinds (sum + r) (row + 1)
   tallied_more =
@@ -145,7 +189,7 @@ module _ (s : Shape) (kinds : List ℕ) (sum row : ℕ) (inv : Tallied s kinds s
         valid = inv.valid;
         rows = inv.rows;
         within = omega arith;
-        says = omega (arith, inv.says, draws_next s kinds row h, same_kind);
+        says = omega (arith, inv.says, draws_next s kinds row h, e);
       }
 
 pub tallied_end : (s : Shape) (kinds : List ℕ) (sum row : ℕ) → Tallied s kinds sum row → length kinds ≤ row → sum ≡ draws_length s kinds

@@ -7,8 +7,7 @@ use Rattle.shape.specs.Bounds.{last_row_at}
 use Rattle.shape.specs.Lengths.{row_length, sums_at_of}
 use Rattle.refusal.specs.Refusal.{Test, ◌when◌, first, or_else}
 use Rattle.refusal.specs.Conditions.{beyond, any_beyond}
-use Rattle.refusal.proofs.Laws.{first_join}
-use Rattle.refusal.proofs.Groups.{first_chain}
+use Rattle.refusal.proofs.Groups.{stopped, went_on}
 use Rattle.refusal.proofs.Endings.{refused, accepted}
 use Rattle.session.specs.declared.Session.{Session}
 use Rattle.session.specs.Sessions.{shape_of}
@@ -17,44 +16,43 @@ use Rattle.session.specs.Checks.{frame_tests, no_row}
 use Rattle.session.specs.Between.{Sized, RowIn, Allows}
 use Rattle.session.proofs.Passed.{row_below}
 use Rattle.session.proofs.Calls.{stopped_at_frame, past_frame}
+use Rattle.linear.specs.Between.{linear_places_of, linear_numbers_of}
 use Rattle.linear.specs.Linear.{linear_marks_of, linear_refusal_of, linear_rows_of}
 use Rattle.linear.proofs.Passed as Passed
 use Rattle.linear.proofs.Passed.{Summed}
 
 module _ (s : Session) (rows : List ℕ) (r a b scale fee : ℕ) where
+  abbrev places : List Test
+  places = linear_places_of r a b
+
   abbrev marks : List Test
   marks = linear_marks_of s.marks r a b
 
-  abbrev eight : ℕ → Test
-  eight q = 8 when any_beyond (row_at (width s) rows q)
-
   abbrev numbers : List Test
-  numbers = 8 when beyond scale ∷ 8 when beyond fee ∷ eight a ∷ eight b ∷ []
-
-  abbrev own : List Test
-  own = 6 when no_row r ∷ 6 when no_row a ∷ 6 when no_row b ∷ (marks ++ numbers)
+  numbers = linear_numbers_of (shape_of s) rows a b scale fee
 
   pub linear_stopped : (f : ℕ) → f ≡ first (frame_tests s rows) → (f ≡ 0 → ⊥) → f ≡ linear_refusal_of s rows r a b scale fee
   unfolding linear_refusal_of
-  linear_stopped f e n = stopped_at_frame s rows own f e n
+  linear_stopped f e n = stopped_at_frame s rows (places ++ (marks ++ numbers)) f e n
 
-  pub linear_checked : (g : Shape) (f x1 x2 x3 q x6 x7 x8 x9 y1 y2 y3 y4 y6 y7 y8 : ℕ) → g ≡ shape_of s → f ≡ first (frame_tests s rows) → f ≡ 0
-      → x1 ≡ first (6 when no_row r ∷ []) → x2 ≡ first (6 when no_row a ∷ []) → x3 ≡ first (6 when no_row b ∷ []) → q ≡ first marks
-      → x6 ≡ first (8 when beyond scale ∷ []) → x7 ≡ first (8 when beyond fee ∷ []) → x8 ≡ first (8 when any_beyond (row_at (row_length g) rows a) ∷ [])
-      → x9 ≡ first (8 when any_beyond (row_at (row_length g) rows b) ∷ []) → y8 ≡ or_else x8 x9 → y7 ≡ or_else x7 y8 → y6 ≡ or_else x6 y7 → y4 ≡ or_else q y6
-      → y3 ≡ or_else x3 y4 → y2 ≡ or_else x2 y3 → y1 ≡ or_else x1 y2 → y1 ≡ linear_refusal_of s rows r a b scale fee
-  unfolding linear_refusal_of
-  linear_checked g f x1 x2 x3 q x6 x7 x8 x9 y1 y2 y3 y4 y6 y7 y8 eg e n e1 e2 e3 eq e6 e7 e8 e9 d8 d7 d6 d4 d3 d2 d1 =
-      let h8 : x8 ≡ first (eight a ∷ []) = rw eg at e8 in
-      let h9 : x9 ≡ first (eight b ∷ []) = rw eg at e9 in
-      past_frame s rows own f y1 e n
-      (cc (
-        first_join (6 when no_row r ∷ []) (6 when no_row a ∷ 6 when no_row b ∷ (marks ++ numbers)) tt,
-        first_join (6 when no_row a ∷ []) (6 when no_row b ∷ (marks ++ numbers)) tt,
-        first_join (6 when no_row b ∷ []) (marks ++ numbers) tt,
-        first_join marks numbers tt,
-        first_chain numbers tt,
-      ))
+  -- behind the frame: places, then marks, then numbers
+  module _ (f : ℕ) (e : f ≡ first (frame_tests s rows)) (n : f ≡ 0) (p : ℕ) (ep : p ≡ first places) where
+    pub linear_misplaced : (p ≡ 0 → ⊥) → p ≡ linear_refusal_of s rows r a b scale fee
+    unfolding linear_refusal_of
+    linear_misplaced h = past_frame s rows (places ++ (marks ++ numbers)) f p e n (stopped places (marks ++ numbers) tt p ep h)
+
+    module _ (z : p ≡ 0) (q : ℕ) (eq : q ≡ first marks) where
+      pub linear_unmarked : (q ≡ 0 → ⊥) → q ≡ linear_refusal_of s rows r a b scale fee
+      unfolding linear_refusal_of
+      linear_unmarked h =
+          past_frame s rows (places ++ (marks ++ numbers)) f q e n (went_on places (marks ++ numbers) tt p ep q z (stopped marks numbers tt q eq h))
+
+      pub linear_checked : q ≡ 0 → (g : Shape) (x : ℕ) → g ≡ shape_of s → x ≡ first (linear_numbers_of g rows a b scale fee)
+          → x ≡ linear_refusal_of s rows r a b scale fee
+      unfolding linear_refusal_of
+      linear_checked y g x eg ex =
+          past_frame s rows (places ++ (marks ++ numbers)) f x e n
+          (went_on places (marks ++ numbers) tt p ep x z (went_on marks numbers tt q eq x y (rw eg at ex)))
 
   pub linear_allows : (f : ℕ) → f ≡ linear_refusal_of s rows r a b scale fee → Allows f (r ≤ last_row_at)
   linear_allows f e = record { allowed = λ n. (Passed.summed s rows r a b scale fee (sym e ∙ n)).placed.row_in }

@@ -1,3 +1,4 @@
 pub mod Linear
 pub mod Table
 pub mod Claims
+pub mod Between

@@ -4,9 +4,13 @@ ghost use Rattle.std.specs.Prelude.{◌≡◌, [], ◌∷◌, ◌≤◌, ◌<◌
 ghost use Rattle.shape.specs.Bounds.{last_row_at};
 ghost use Rattle.refusal.specs.Refusal.{outcome};
 ghost use Rattle.callers.specs.Sets.{sets_length, shared, shared_all, unbarred};
+ghost use Rattle.refusal.specs.Numbers.{refused};
 ghost use Rattle.session.specs.Between.{Allows};
 
+use refusal::Refusal;
+
 // Row d bars nobody.
+#[tactic(auto, using(callers::proofs::Shared::shared_start, crate::proofs::Sharing::clear_more, callers::proofs::Shared::shared_end))]
 fn clear(sets: &mut [u32], d: usize)
     requires { (length sets.old ≡ sets_length) × (d < 96) }
     ensures { sets.new ≡ unbarred sets.old d }
@@ -17,6 +21,7 @@ fn clear(sets: &mut [u32], d: usize)
 }
 
 // Row d bars whom row a bars too.
+#[tactic(auto, using(callers::proofs::Shared::shared_start, callers::proofs::Shared::shared_more, callers::proofs::Shared::shared_end))]
 fn join(sets: &mut [u32], d: usize, a: usize)
     requires { (length sets.old ≡ sets_length) × (d < 96) × (a < 96) }
     ensures { sets.new ≡ shared 8 sets.old d d a }
@@ -29,6 +34,7 @@ fn join(sets: &mut [u32], d: usize, a: usize)
 }
 
 // Row d bars just whom one of two rows bars.
+#[tactic(auto, using(crate::proofs::Sharing::length_cleared, crate::proofs::Sharing::length_joined, crate::proofs::Sharing::all_joined, crate::proofs::Sharing::all_same))]
 fn share(sets: &mut [u32], d: usize, a: usize, b: usize)
     requires { (length sets.old ≡ sets_length) × (d < 96) × (a < 96) × (b < 96) }
     ensures { sets.new ≡ shared_all sets.old d (a ∷ b ∷ []) }
@@ -38,13 +44,14 @@ fn share(sets: &mut [u32], d: usize, a: usize, b: usize)
     join(sets, d, b);
 }
 
-// The sets, after a call with this refusal.
-pub fn share_unless(refusal: u8, sets: &mut [u32], d: usize, a: usize, b: usize)
-    requires { (length sets.old ≡ sets_length) × Allows refusal (d ≤ last_row_at) × Allows refusal (a ≤ last_row_at) × Allows refusal (b ≤ last_row_at) }
-    ensures { sets.new ≡ outcome refusal (shared_all sets.old d (a ∷ b ∷ [])) sets.old }
+// The sets, after a call whose checks found this.
+#[tactic(auto, using(crate::proofs::Sharing::row_96, crate::proofs::Sharing::set_refused, crate::proofs::Sharing::set_done, crate::proofs::Sharing::length_shares, refusal::proofs::Checks::ok_zero, refusal::proofs::Checks::err_not_zero))]
+pub fn share_unless(checked: Result<(), Refusal>, sets: &mut [u32], d: usize, a: usize, b: usize)
+    requires { (length sets.old ≡ sets_length) × Allows (refused checked) (d ≤ last_row_at) × Allows (refused checked) (a ≤ last_row_at)
+        × Allows (refused checked) (b ≤ last_row_at) }
+    ensures { sets.new ≡ outcome (refused checked) (shared_all sets.old d (a ∷ b ∷ [])) sets.old }
 {
-    if refusal != 0 {
-        return;
+    if checked.is_ok() {
+        share(sets, d, a, b);
     }
-    share(sets, d, a, b);
 }

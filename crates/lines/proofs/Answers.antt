@@ -13,12 +13,11 @@ use Rattle.refusal.specs.Refusal.{Test, ◌when◌, first, outcome}
 use Rattle.refusal.specs.Conditions.{outside, wrong_length, beyond, station_tests}
 use Rattle.refusal.proofs.Endings.{refused}
 use Rattle.csv_fields.specs.declared.Run.{Run}
-use Rattle.csv_fields.specs.declared.Run.TheVariants.{Fields, Broken}
-use Rattle.csv_fields.specs.Fields.{Parsed, parsed, malformed, fields_at, ended, numbers_of_of, largest_from, run_of, padded}
+use Rattle.std.specs.Prelude.{Option, Some, None}
+use Rattle.csv_fields.specs.Fields.{Parsed, parsed, malformed, fields_at, ended, numbers_of_of, largest_from, run, run_of, padded}
 use Rattle.forms.proofs.Ranges.{largest_any}
 use Rattle.lines.specs.declared.Line.{Line}
 use Rattle.forms.specs.declared.Head.{Head}
-use Rattle.forms.specs.declared.Head.TheVariants.{Right, Wrong}
 use Rattle.forms.specs.Lines.{Message, last_row_of}
 use Rattle.lines.specs.Order.{line_refusal}
 use Rattle.forms.specs.Forms.{form_of, message_of, message, out_of_range_of, beyond_range, line_tests}
@@ -42,35 +41,32 @@ limit_small true limit e = omega arith
 limit_small false limit e = omega arith
 
 -- ---- a line with the right head
-module _ (n k : ℕ) (s out : List ℕ) (f : Head) (form : HeadOf k s f) where
+module _ (n k : ℕ) (s out : List ℕ) where
   abbrev refusal : ℕ
   refusal = first (line_tests n k s)
 
-  pub malformed_line : (v : Line) → f ≡ Wrong → v ≡ no_line_of 10 → v ≡ line_as refusal (message k s)
+  pub malformed_line : (v : Line) → form_of k s ≡ malformed → v ≡ no_line_of 10 → v ≡ line_as refusal (message k s)
   unfolding outcome
-  malformed_line v w q = rw (rw w at form) q
+  malformed_line v form q = rw form q
 
-  pub malformed_list : f ≡ Wrong → out ≡ list_as refusal (message k s) out
+  pub malformed_list : form_of k s ≡ malformed → out ≡ list_as refusal (message k s) out
   unfolding outcome
-  malformed_list w = rw (rw w at form)
+  malformed_list form = rw form
 
-  module _ (letter row post at count : ℕ) (w : f ≡ Right letter row post at count) where
-    headed : Headed k s letter row post at count
-    headed = rw w at form
-
+  module _ (letter row post at count : ℕ) (headed : Headed k s letter row post at count) where
     pub head_room : length out ≡ 2 * k → count ≤ length out
     head_room l = omega (arith, headed.few)
 
-    module _ (r : Run) (d : r ≡ run_of (ended s (fields_at count s at))) where
+    module _ (r : Option Run) (d : r ≡ run_of (ended s (fields_at count s at))) where
       -- what the list has: the numbers, if they are below the limit
       abbrev read_as : ℕ → List ℕ
       read_as limit = cond (below_limit r limit) (padded (length out) (numbers_of_of (fields_at count s at))) out
 
-      module _ (u : r ≡ Broken) where
+      module _ (u : r ≡ None) where
         broken : form_of k s ≡ malformed
         broken = headed.all ∙ by_form (ended s (fields_at count s at)) (sym d ∙ u)
           where
-            by_form : (o : Parsed) → run_of o ≡ Broken → before (head_of letter row post) o ≡ malformed
+            by_form : (o : Parsed) → run_of o ≡ None → before (head_of letter row post) o ≡ malformed
             by_form malformed q = refl
             by_form (parsed xs next) q = let z : ◌≡◌ {A = ℕ} 0 1 = cc in absurd (omega arith)
 
@@ -82,7 +78,7 @@ module _ (n k : ℕ) (s out : List ℕ) (f : Head) (form : HeadOf k s f) where
         unfolding outcome
         broken_list limit o q = q ∙ rw (broken, u)
 
-      module _ (largest next : ℕ) (u : r ≡ Fields largest next) where
+      module _ (largest next : ℕ) (u : r ≡ run largest next) where
         record Scanned : Type 0 where
           numbers : List ℕ
           all : form_of k s ≡ parsed (head_of letter row post ++ numbers) next
@@ -93,14 +89,15 @@ module _ (n k : ℕ) (s out : List ℕ) (f : Head) (form : HeadOf k s f) where
         scanned = by_form (fields_at count s at) refl headed.all (sym d ∙ u)
           where
             by_end : (xs : List ℕ) (end : ℕ) (t : Bool) → fields_at count s at ≡ parsed xs end
-                → form_of k s ≡ before (head_of letter row post) (cond t (parsed xs end) malformed) → run_of (cond t (parsed xs end) malformed) ≡ Fields largest next → Scanned
+                → form_of k s ≡ before (head_of letter row post) (cond t (parsed xs end) malformed) → run_of (cond t (parsed xs end) malformed) ≡ run largest next → Scanned
             by_end xs end true g a q =
-                let e : end ≡ next = cc in
-                let l : largest ≡ largest_from 0 xs = cc in
+                let h : ◌≡◌ {A = Run} (record { largest = largest_from 0 xs; next = end }) (record { largest = largest; next = next }) = cc in
+                let e : end ≡ next = ap (λ (v : Run). v.next) h in
+                let l : largest ≡ largest_from 0 xs = sym (ap (λ (v : Run). v.largest) h) in
                 record { numbers = xs; all = a ∙ ap (parsed (head_of letter row post ++ xs)) e; rest = g ∙ ap (parsed xs) e; largest_is = l }
             by_end xs end false g a q = let z : ◌≡◌ {A = ℕ} 0 1 = cc in absurd (omega arith)
 
-            by_form : (o : Parsed) → fields_at count s at ≡ o → form_of k s ≡ before (head_of letter row post) (ended s o) → run_of (ended s o) ≡ Fields largest next → Scanned
+            by_form : (o : Parsed) → fields_at count s at ≡ o → form_of k s ≡ before (head_of letter row post) (ended s o) → run_of (ended s o) ≡ run largest next → Scanned
             by_form malformed g a q = let z : ◌≡◌ {A = ℕ} 0 1 = cc in absurd (omega arith)
             by_form (parsed xs end) g a q = by_end xs end (eqb (get_or s end 0) 10 && eqb (length s) (end + 1)) g a q
 

@@ -1,4 +1,4 @@
--- Lists that a loop fills, and lists with a part put in: for every crate that writes.
+-- Lists that a loop fills or copies, and lists with a part put in: for every crate that writes.
 pub mod Filled
-pub mod Cleared
+pub mod Copied
 pub mod Parts

@@ -3,13 +3,14 @@
 
 ghost use Rattle.std.specs.Prelude.{◌≡◌, length, replicate};
 
-// The numbers of `from`, into `to`.
-pub fn copy(from: &[u32], to: &mut [u32])
+// What stands in `from`, into `to`. `copy_from_slice` would have the library need `memmove`; it needs `memcpy` and `memset` alone.
+#[tactic(auto, using(crate::proofs::Copied::copied_more, crate::proofs::Copied::copied_end))]
+pub fn copy<T: Copy>(from: &[T], to: &mut [T])
     requires { length from.now ≡ length to.old }
     ensures { to.new ≡ from.now }
 {
-    for i in 0..from.len() {
-        to[i] = from[i];
+    for (i, x) in from.iter().enumerate() {
+        to[i] = *x;
     }
 }
 
@@ -17,7 +18,5 @@ pub fn copy(from: &[u32], to: &mut [u32])
 pub fn clear(list: &mut [u32])
     ensures { list.new ≡ replicate (length list.old) 0 }
 {
-    for i in 0..list.len() {
-        list[i] = 0;
-    }
+    list.fill(0);
 }

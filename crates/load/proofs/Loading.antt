@@ -8,7 +8,7 @@ use lib.ListN.{length}
 use Rattle.shape.specs.declared.Shape.{Shape}
 use Rattle.shape.specs.Bounds.{last_row_at, last_triple}
 use Rattle.shape.specs.Marks.{empty}
-use Rattle.shape.specs.Lengths.{row_length, triple_length}
+use Rattle.shape.specs.Lengths.{Valid, row_length, triple_length}
 use Rattle.refusal.specs.Refusal.{Test, ◌when◌, first, or_else}
 use Rattle.refusal.specs.Conditions.{wrong_length, any_beyond}
 use Rattle.refusal.proofs.Laws.{first_join, or_else_zero, all_fail}
@@ -20,32 +20,23 @@ use Rattle.session.specs.Rows.{width, with_row}
 use Rattle.session.specs.Checks.{frame_tests, no_row, no_triple, wrong_mark_of, wrong_marks_of}
 use Rattle.session.specs.Between.{Sized, RowIn, TripleIn, Allows}
 use Rattle.session.proofs.Passed.{row_below}
-use Rattle.session.proofs.Calls.{stopped_at_frame, past_frame}
+use Rattle.session.proofs.Calls.{frame_passed, stopped_at_frame, past_frame}
+use Rattle.load.specs.Between.{load_row_own_tests, load_triple_place_tests}
 use Rattle.load.specs.Load.{load_row_refusal_of, load_row_rows_of, load_triple_refusal_of, with_triple, load_triple_rows_of}
 use Rattle.load.proofs.Passed.{RowLoaded, row_loaded, TripleLoaded, triple_loaded_lem}
 
--- a triple's place was not refused
-placed_below : (r q5 q6 p : ℕ) → q6 ≡ first (6 when no_triple r ∷ []) → p ≡ or_else q5 q6 → p ≡ 0 → r ≤ last_triple
-placed_below r q5 q6 p e6 ep h =
-    let z : q6 ≡ 0 = (or_else_zero q5 q6 (sym ep ∙ h)).1 in
-    ltb-false last_triple r (all_fail (6 when no_triple r ∷ []) tt (sym e6 ∙ z)).0
-
 module _ (s : Session) (rows : List ℕ) (r : ℕ) (pack : List ℕ) where
-  abbrev own_row : List Test
-  own_row = 5 when wrong_length pack (width s) ∷ 6 when no_row r ∷ 7 when wrong_mark_of s r empty ∷ 8 when any_beyond pack ∷ []
-
   pub load_row_stopped : (f : ℕ) → f ≡ first (frame_tests s rows) → (f ≡ 0 → ⊥) → f ≡ load_row_refusal_of s rows r pack
   unfolding load_row_refusal_of
-  load_row_stopped f e n = stopped_at_frame s rows own_row f e n
+  load_row_stopped f e n = stopped_at_frame s rows (load_row_own_tests s r pack) f e n
 
-  pub load_row_checked : (g : Shape) (f w q5 q6 q7 q8 x y z : ℕ) → g ≡ shape_of s → f ≡ first (frame_tests s rows) → f ≡ 0 → w ≡ row_length g
-      → q5 ≡ first (5 when wrong_length pack w ∷ []) → q6 ≡ first (6 when no_row r ∷ [])
-      → q7 ≡ first (7 when wrong_mark_of s r empty ∷ []) → q8 ≡ first (8 when any_beyond pack ∷ [])
-      → x ≡ or_else q7 q8 → y ≡ or_else q6 x → z ≡ or_else q5 y → z ≡ load_row_refusal_of s rows r pack
+  pub load_row_valid : (f : ℕ) → f ≡ first (frame_tests s rows) → f ≡ 0 → Valid (shape_of s)
+  load_row_valid f e z = (frame_passed s rows f e z).sized.valid
+
+  pub load_row_checked : (f z : ℕ) → f ≡ first (frame_tests s rows) → f ≡ 0 → z ≡ first (load_row_own_tests s r pack)
+      → z ≡ load_row_refusal_of s rows r pack
   unfolding load_row_refusal_of
-  load_row_checked g f w q5 q6 q7 q8 x y z eg e n ew e5 e6 e7 e8 ex ey ez =
-      let h : q5 ≡ first (5 when wrong_length pack (width s) ∷ []) = rw (ew, eg) at e5 in
-      past_frame s rows own_row f z e n (chained own_row tt z (cc))
+  load_row_checked f z e n ez = past_frame s rows (load_row_own_tests s r pack) f z e n ez
 
   pub load_row_allows : (f : ℕ) → f ≡ load_row_refusal_of s rows r pack → Allows f (r ≤ last_row_at)
   load_row_allows f e = record { allowed = λ n. (row_loaded s rows r pack (sym e ∙ n)).row_in }
@@ -74,7 +65,7 @@ module _ (s : Session) (rows : List ℕ) (r : ℕ) (pack : List ℕ) where
       load_row_written out eo = accepted f (load_row_refusal_of s rows r pack) out (with_row (width s) r pack rows) rows e n (rw eg at eo)
 
   abbrev placed : List Test
-  placed = 5 when wrong_length pack (triple_length (shape_of s)) ∷ 6 when no_triple r ∷ []
+  placed = load_triple_place_tests s r pack
 
   abbrev marks : List Test
   marks = wrong_marks_of s.marks r empty empty empty
@@ -87,22 +78,24 @@ module _ (s : Session) (rows : List ℕ) (r : ℕ) (pack : List ℕ) where
   load_triple_stopped f e n = stopped_at_frame s rows (placed ++ late) f e n
 
   -- p is the refusal for the pack's length and the triple's place
-  module _ (g : Shape) (f w q5 q6 p : ℕ) (eg : g ≡ shape_of s) (e : f ≡ first (frame_tests s rows)) (n : f ≡ 0) (ew : w ≡ triple_length g)
-      (e5 : q5 ≡ first (5 when wrong_length pack w ∷ [])) (e6 : q6 ≡ first (6 when no_triple r ∷ [])) (ep : p ≡ or_else q5 q6) where
-    place : p ≡ first placed
-    place = let h : q5 ≡ first (5 when wrong_length pack (triple_length (shape_of s)) ∷ []) = rw (ew, eg) at e5 in chained placed tt p (cc)
-
+  module _ (f p : ℕ) (e : f ≡ first (frame_tests s rows)) (n : f ≡ 0) (ep : p ≡ first placed) where
     pub load_triple_misplaced : (p ≡ 0 → ⊥) → p ≡ load_triple_refusal_of s rows r pack
     unfolding load_triple_refusal_of
-    load_triple_misplaced h = past_frame s rows (placed ++ late) f p e n (stopped placed late tt p place h)
+    load_triple_misplaced h = past_frame s rows (placed ++ late) f p e n (stopped placed late tt p ep h)
 
-    pub load_triple_checked : (q7 q8 z : ℕ) → p ≡ 0 → (r ≤ last_triple → q7 ≡ first marks) → q8 ≡ first (8 when any_beyond pack ∷ [])
-        → z ≡ or_else q7 q8 → z ≡ load_triple_refusal_of s rows r pack
-    unfolding load_triple_refusal_of
-    load_triple_checked q7 q8 z h e7' e8 ez =
-        let e7 : q7 ≡ first marks = e7' (placed_below r q5 q6 p e6 ep h) in
-        past_frame s rows (placed ++ late) f z e n
-        (went_on placed late tt p place z h (cc (first_join marks (8 when any_beyond pack ∷ []) tt)))
+    module _ (q7 : ℕ) (h : p ≡ 0) (e7 : r ≤ last_triple → q7 ≡ first marks) where
+      marked : q7 ≡ first marks
+      marked = e7 (ltb-false last_triple r (all_fail placed tt (sym ep ∙ h)).1.0)
+
+      pub load_triple_full : (q7 ≡ 0 → ⊥) → q7 ≡ load_triple_refusal_of s rows r pack
+      unfolding load_triple_refusal_of
+      load_triple_full y =
+          past_frame s rows (placed ++ late) f q7 e n (went_on placed late tt p ep q7 h (stopped marks (8 when any_beyond pack ∷ []) tt q7 marked y))
+
+      pub load_triple_checked : (q8 : ℕ) → q7 ≡ 0 → q8 ≡ first (8 when any_beyond pack ∷ []) → q8 ≡ load_triple_refusal_of s rows r pack
+      unfolding load_triple_refusal_of
+      load_triple_checked q8 z e8 =
+          past_frame s rows (placed ++ late) f q8 e n (went_on placed late tt p ep q8 h (went_on marks (8 when any_beyond pack ∷ []) tt q7 marked q8 z e8))
 
   pub load_triple_allows : (f : ℕ) → f ≡ load_triple_refusal_of s rows r pack → Allows f (r ≤ last_triple)
   load_triple_allows f e = record { allowed = λ n. (triple_loaded_lem s rows r pack (sym e ∙ n)).triple_in }

@@ -1,20 +1,26 @@
 -- Masks that are made in a lent room, and opened there; and the refusal of two openings.
-use Prim.Native.Nat.{ℕ, ◌+◌, ◌-◌}
+use Prim.Native.Nat.{ℕ, ◌+◌, ◌-◌, ◌*◌, ◌≤◌}
 use mathlib.Core.Path.{◌≡◌, refl, sym, ◌∙◌, ap, ap₂}
 use mathlib.Core.List.{List}
 use native.Mathlib.Omega.{arith}
-use borrow.Author.Tests.{eq-eqb, ne_eqb}
-use lib.ListN.{length}
+use borrow.Author.Tests.{eqb-true}
+use lib.Dec.{eqb}
+use mathlib.Core.Bool.{true, false}
+use lib.ListN.{length, take}
+use lib.Seq.{length-take-le}
 use Rattle.field.specs.Modulus.{p}
 use Rattle.shape.specs.declared.Shape.{Shape}
-use Rattle.shape.specs.Lengths.{row_length}
+use Rattle.shape.specs.Lengths.{Valid, row_length}
 use Rattle.refusal.specs.Refusal.{or_else}
 use Rattle.session.specs.declared.Party.{Party}
 use Rattle.session.specs.Rows.{row_at, combined}
 use Rattle.session.specs.Between.{RowIn, TripleIn}
 use Rattle.session.proofs.Passed.{row_below}
 use Rattle.sums.proofs.Writers.{length_combined}
-use Rattle.walk.specs.declared.Opened.{Opened}
+use Rattle.std.specs.Prelude.{Result}
+use Rattle.refusal.specs.declared.Refusal.{Refusal}
+use Rattle.blocks.specs.Between.{Openable}
+use Rattle.mask_opening.specs.Between.{Maskable}
 use Rattle.walk.specs.Number as Number
 use Rattle.product_masks.specs.Masks.{mask_row}
 use Rattle.mask_opening.specs.declared.OpenedPair.{OpenedPair}
@@ -37,15 +43,33 @@ module _ (g : Shape) (r : ℕ) (h : TripleIn g r) where
   pub second_in : RowIn g (r + 1)
   second_in = row_below g (r + 1) (omega (arith, h.triple_in))
 
+-- a room of so many numbers has the row's at its start
+module _ (g : Shape) (room width : ℕ) (v : Valid g) (h : 5 * g.n ≤ room + 1) (e : width ≡ row_length g) where
+  pub room_holds : width ≤ room
+  room_holds = omega (arith, v.t_in, v.reach_in, v.checks_in, e)
+
+  pub room_long : (l : List ℕ) → length l ≡ room → width ≤ length l
+  room_long l el = omega (arith, room_holds, el)
+
+  pub room_size : (l : List ℕ) → length l ≡ room → length (take width l) ≡ row_length g
+  room_size l el = length-take-le width l (room_long l el) ∙ e
+
+-- a mask can be opened with its record
+module _ (q : Party) (rows : List ℕ) (a b r : ℕ) (l l' : List ℕ) (h : Maskable q rows a b r l l') (x : List ℕ) (e : length x ≡ row_length q.shape) where
+  pub mask_openable_a : Openable q x l
+  mask_openable_a = record { recorded = h.recorded_a; row_length_is = e }
+
+  pub mask_openable_b : Openable q x l'
+  mask_openable_b = record { recorded = h.recorded_b; row_length_is = e }
+
 -- both, from what the two openings gave
-pub both_opened : (q : Party) (rows record_a_of record_b_of x y : List ℕ) (a b r : ℕ) (o o' : Opened) → x ≡ mask_row q.shape rows a r → y ≡ mask_row q.shape rows b (r + 1)
+pub both_opened : (q : Party) (rows record_a_of record_b_of x y : List ℕ) (a b r : ℕ) (o o' : Result ℕ Refusal) → x ≡ mask_row q.shape rows a r → y ≡ mask_row q.shape rows b (r + 1)
     → o ≡ Number.opened_row q x record_a_of → o' ≡ Number.opened_row q y record_b_of
     → ◌≡◌ {A = OpenedPair} (record { a = o; b = o' }) (opened_pair q rows a b r record_a_of record_b_of)
 both_opened q rows record_a_of record_b_of x y a b r o o' ex ey eo eo' = rw (eo, eo', ex, ey) refl
 
-module _ (r a b : ℕ) where
-  pub either_nine : b ≡ 9 → r ≡ 9 → r ≡ either_of a b
-  either_nine e h = rw (eq-eqb b 9 e) h
+pub either_nine : (a b : ℕ) → eqb b 9 ≡ true → b ≡ either_of a b
+either_nine a b e = rw e (eqb-true b 9 e)
 
-  pub either_other : (b ≡ 9 → ⊥) → r ≡ or_else a b → r ≡ either_of a b
-  either_other n h = rw (ne_eqb b 9 n) h
+pub either_other : (a b r : ℕ) → eqb b 9 ≡ false → r ≡ or_else a b → r ≡ either_of a b
+either_other a b r e h = rw e h

@@ -1,28 +1,46 @@
 // The two masks of a product, a − l and b − l', opened with their records; and the refusal of two openings. The first call of a finish and a
-// relation's finish use both, and each chooses the size of the rooms by itself (see rooms).
+// relation's finish use both.
 #![tactic(auto)]
 
-ghost use Rattle.std.specs.Prelude.{◌≡◌, ◌≤◌, length};
-ghost use Rattle.shape.specs.Bounds.{very_few_posts, few_posts};
+ghost use Rattle.std.specs.Prelude.{◌≡◌, ◌≤◌, ◌+◌, ◌*◌, eqb, length};
+ghost use Rattle.shape.specs.Bounds.{longest_row};
 ghost use Rattle.shape.specs.Lengths.{row_length};
+ghost use Rattle.refusal.specs.Numbers.{refused};
 ghost use Rattle.session.specs.Between.{Sized, RowIn};
+ghost use Rattle.blocks.specs.Between.{Openable};
+ghost use Rattle.walk.specs.Number.{opened_row};
 ghost use Rattle.product_masks.specs.Masks.{mask_row};
 ghost use Rattle.mask_opening.specs.Either.{either_of};
 ghost use Rattle.mask_opening.specs.Pair.{opened_pair};
 ghost use Rattle.mask_opening.specs.Between.{Maskable};
 
+use blocks::Opening;
+use refusal::Refusal;
 use session::Party;
 use shape::Shape;
-use walk::Opened;
 
 // What the two masks of a product open to.
 #[derive(Clone, Copy)]
 pub struct OpenedPair {
-    pub a: Opened,
-    pub b: Opened,
+    pub a: Result<u32, Refusal>,
+    pub b: Result<u32, Refusal>,
+}
+
+// What the opening of a product's two masks goes by: who opens, the rows, which of them are the factors and the triple, and the two records.
+#[derive(Clone, Copy)]
+pub struct Masks<'a> {
+    pub party: Party,
+    pub rows: &'a [u32],
+    pub a: usize,
+    pub b: usize,
+    pub first: usize,
+    pub record_a: &'a [u32],
+    pub record_b: &'a [u32],
+    pub ghost maskable: { Maskable party rows.now a b first record_a.now record_b.now },
 }
 
 // A factor row less a row of the triple, made in the lent room.
+#[tactic(auto, using(crate::proofs::Opens::mask_made, crate::proofs::Opens::mask_length))]
 fn make_mask(shape: Shape, rows: &[u32], factor: usize, row: usize, room: &mut [u32])
     requires { Sized shape rows.now × RowIn shape factor × RowIn shape row × (length room.old ≡ row_length shape) }
     ensures { (room.new ≡ mask_row shape rows.now factor row) × (length room.new ≡ row_length shape) }
@@ -35,164 +53,71 @@ fn make_mask(shape: Shape, rows: &[u32], factor: usize, row: usize, room: &mut [
     );
 }
 
-// Both masks of the triple at `first`, made one after the other in the lent room and opened with their records.
-fn open_pair_in(
-    party: Party,
-    rows: &[u32],
-    a: usize,
-    b: usize,
-    first: usize,
-    record_a: &[u32],
-    record_b: &[u32],
-    room: &mut [u32],
-) -> OpenedPair
-    requires { Maskable party rows.now a b first record_a.now record_b.now × (length room.old ≡ row_length party.shape) }
-    ensures { result ≡ opened_pair party rows.now a b first record_a.now record_b.now }
+// A mask, opened with its record.
+fn open_mask(party: Party, mask: &[u32], blocks: &[u32]) -> Result<u32, Refusal>
+    requires { Openable party mask.now blocks.now }
+    ensures { result ≡ opened_row party mask.now blocks.now }
 {
-    let shape = party.shape;
-    make_mask(shape, rows, a, first, room);
-    let opened_a = rooms::open_row(party, room, record_a);
-    make_mask(shape, rows, b, first + 1, room);
-    let opened_b = rooms::open_row(party, room, record_b);
-    OpenedPair {
-        a: opened_a,
-        b: opened_b,
+    rooms::open_row(Opening {
+        party,
+        row: mask,
+        blocks,
+    })
+}
+
+impl<'a> Masks<'a> {
+    // Both masks, made one after the other in one room and opened with their records. Never a part of its callers: there the room of the most posts
+    // would stand on a small station's stack too.
+    #[inline(never)]
+    #[tactic(auto, using(crate::proofs::Opens::room_long, crate::proofs::Opens::room_size, crate::proofs::Opens::first_in, crate::proofs::Opens::second_in, crate::proofs::Opens::mask_openable_a, crate::proofs::Opens::mask_openable_b, crate::proofs::Opens::both_opened))]
+    fn open_in<const ROOM: usize>(self) -> OpenedPair
+        requires { (5 * self.party.shape.n ≤ ROOM + 1) × (ROOM ≤ longest_row) }
+        ensures { result
+            ≡ opened_pair self.entry.party self.entry.rows.now self.entry.a self.entry.b self.entry.first
+            self.entry.record_a.now self.entry.record_b.now }
+    {
+        let shape = self.party.shape;
+        let width = shape.row_len();
+        let mut numbers = [0u32; ROOM];
+        let room = &mut numbers[..width];
+        make_mask(shape, self.rows, self.a, self.first, room);
+        let a = open_mask(self.party, room, self.record_a);
+        make_mask(shape, self.rows, self.b, self.first + 1, room);
+        let b = open_mask(self.party, room, self.record_b);
+        OpenedPair { a, b }
+    }
+
+    // In a room that fits the station.
+    pub fn open(self) -> OpenedPair
+        ensures { result
+            ≡ opened_pair self.entry.party self.entry.rows.now self.entry.a self.entry.b self.entry.first
+            self.entry.record_a.now self.entry.record_b.now }
+    {
+        let n = self.party.shape.n;
+        if n <= shape::VERY_FEW_POSTS {
+            self.open_in::<{ shape::ROW_OF_VERY_FEW }>()
+        } else if n <= shape::FEW_POSTS {
+            self.open_in::<{ shape::ROW_OF_FEW }>()
+        } else {
+            self.open_in::<{ shape::LONGEST_ROW }>()
+        }
     }
 }
 
-// In a room for very few posts.
-fn open_pair_in_very_few(
-    party: Party,
-    rows: &[u32],
-    a: usize,
-    b: usize,
-    first: usize,
-    record_a: &[u32],
-    record_b: &[u32],
-) -> OpenedPair
-    requires { Maskable party rows.now a b first record_a.now record_b.now × (party.shape.n ≤ very_few_posts) }
-    ensures { result ≡ opened_pair party rows.now a b first record_a.now record_b.now }
+// 9: too few were accepted. By the number: the proof of a `match` with `_` doesn't learn that the rest is another refusal.
+fn too_few<T: Copy>(opened: Result<T, Refusal>) -> bool
+    ensures { result ≡ eqb (refused opened) 9 }
 {
-    let shape = party.shape;
-    let width = shape.row_len();
-    let mut room = [0u32; shape::ROW_OF_VERY_FEW];
-    open_pair_in(
-        party,
-        rows,
-        a,
-        b,
-        first,
-        record_a,
-        record_b,
-        &mut room[..width],
-    )
-}
-
-// In a room for few posts.
-fn open_pair_in_few(
-    party: Party,
-    rows: &[u32],
-    a: usize,
-    b: usize,
-    first: usize,
-    record_a: &[u32],
-    record_b: &[u32],
-) -> OpenedPair
-    requires { Maskable party rows.now a b first record_a.now record_b.now × (party.shape.n ≤ few_posts) }
-    ensures { result ≡ opened_pair party rows.now a b first record_a.now record_b.now }
-{
-    let shape = party.shape;
-    let width = shape.row_len();
-    let mut room = [0u32; shape::ROW_OF_FEW];
-    open_pair_in(
-        party,
-        rows,
-        a,
-        b,
-        first,
-        record_a,
-        record_b,
-        &mut room[..width],
-    )
-}
-
-// Of a station of few posts.
-pub fn open_few_pair(
-    party: Party,
-    rows: &[u32],
-    a: usize,
-    b: usize,
-    first: usize,
-    record_a: &[u32],
-    record_b: &[u32],
-) -> OpenedPair
-    requires { Maskable party rows.now a b first record_a.now record_b.now × (party.shape.n ≤ few_posts) }
-    ensures { result ≡ opened_pair party rows.now a b first record_a.now record_b.now }
-{
-    let shape = party.shape;
-    if shape.n <= shape::VERY_FEW_POSTS {
-        return open_pair_in_very_few(party, rows, a, b, first, record_a, record_b);
-    }
-    open_pair_in_few(party, rows, a, b, first, record_a, record_b)
-}
-
-// Not `open_pair_in` again: `rooms::open_most` had one caller then, and its rooms were on every stack (a collect of 3 posts: 20,552 bytes, not 7,496).
-fn open_most_pair_in(
-    party: Party,
-    rows: &[u32],
-    a: usize,
-    b: usize,
-    first: usize,
-    record_a: &[u32],
-    record_b: &[u32],
-    room: &mut [u32],
-) -> OpenedPair
-    requires { Maskable party rows.now a b first record_a.now record_b.now × (length room.old ≡ row_length party.shape) }
-    ensures { result ≡ opened_pair party rows.now a b first record_a.now record_b.now }
-{
-    let shape = party.shape;
-    make_mask(shape, rows, a, first, room);
-    let opened_a = rooms::open_most(party, room, record_a);
-    make_mask(shape, rows, b, first + 1, room);
-    let opened_b = rooms::open_most(party, room, record_b);
-    OpenedPair {
-        a: opened_a,
-        b: opened_b,
+    match opened {
+        Ok(_) => false,
+        Err(refusal) => refusal as u8 == Refusal::TooFewAccepted as u8,
     }
 }
 
-// Of a station of any size. In its callers its room would stand on a small station's stack too.
-#[inline(never)]
-pub fn open_most_pair(
-    party: Party,
-    rows: &[u32],
-    a: usize,
-    b: usize,
-    first: usize,
-    record_a: &[u32],
-    record_b: &[u32],
-) -> OpenedPair
-    requires { Maskable party rows.now a b first record_a.now record_b.now }
-    ensures { result ≡ opened_pair party rows.now a b first record_a.now record_b.now }
+// Two openings: a 9 of either comes before a 13 of either.
+#[tactic(auto, using(crate::proofs::Opens::either_nine, crate::proofs::Opens::either_other, refusal::proofs::Checks::refused_and))]
+pub fn either<T: Copy>(a: Result<T, Refusal>, b: Result<T, Refusal>) -> Result<T, Refusal>
+    ensures { refused result ≡ either_of (refused a) (refused b) }
 {
-    let shape = party.shape;
-    let width = shape.row_len();
-    let mut room = [0u32; shape::LONGEST_ROW];
-    open_most_pair_in(
-        party,
-        rows,
-        a,
-        b,
-        first,
-        record_a,
-        record_b,
-        &mut room[..width],
-    )
-}
-
-// The refusal of two openings: a 9 of either comes before a 13 of either.
-pub fn either(a: u8, b: u8) -> u8
-    ensures { result ≡ either_of a b }
-{
-    if b == 9 { 9 } else { refusal::or_else(a, b) }
+    if too_few(b) { b } else { a.and(b) }
 }

@@ -24,54 +24,18 @@ use Rattle.session.specs.Checks.{frame_tests, no_row, wrong_mark_of}
 use Rattle.session.specs.Between.{Sized, RowIn}
 use Rattle.session.proofs.Passed.{row_below}
 use Rattle.session.proofs.Calls.{stopped_at_frame, past_frame}
+use Rattle.message.specs.Between.{message_own_tests}
 use Rattle.message.specs.Message.{message_checks_of, message_early, message_refusal_of, message_out_of}
 use Rattle.message.proofs.Passed.{MessageMade, message_made, checks_passed}
 
-module _ (s : Session) (rows : List ℕ) (r : ℕ) (out : List ℕ) where
-  abbrev own : List Test
-  own =
-      5 when wrong_length out (message_length (shape_of s))
-      ∷ 6 when no_row r
-      ∷ 7 when wrong_mark_of s r held
-      ∷ 8 when any_beyond (row_at (width s) rows r)
-      ∷ []
-
-  pub message_stopped : (f : ℕ) → f ≡ first (frame_tests s rows) → (f ≡ 0 → ⊥) → f ≡ message_early s rows r out
+module _ (s : Session) (rows : List ℕ) (r : ℕ) (out : List ℕ) (f : ℕ) (e : f ≡ first (frame_tests s rows)) where
+  pub message_stopped : (f ≡ 0 → ⊥) → f ≡ message_early s rows r out
   unfolding message_early
-  message_stopped f e n = stopped_at_frame s rows own f e n
+  message_stopped n = stopped_at_frame s rows (message_own_tests s rows r out) f e n
 
-  abbrev size : List Test
-  size = 5 when wrong_length out (message_length (shape_of s)) ∷ []
-
-  abbrev place : List Test
-  place = 6 when no_row r ∷ 7 when wrong_mark_of s r held ∷ []
-
-  abbrev numbers : List Test
-  numbers = 8 when any_beyond (row_at (width s) rows r) ∷ []
-
-  -- the length stops the call, or row and mark do, or it goes on
-  module _ (f : ℕ) (e : f ≡ first (frame_tests s rows)) (z : f ≡ 0) (g : Shape) (eg : g ≡ shape_of s) (w q5 : ℕ) (ew : w ≡ v_length g)
-      (e5 : q5 ≡ first (5 when wrong_length out w ∷ [])) where
-    sized : q5 ≡ first size
-    sized = rw (ew, eg) at e5
-
-    pub size_stopped : (q5 ≡ 0 → ⊥) → q5 ≡ message_early s rows r out
-    unfolding message_early
-    size_stopped n = past_frame s rows own f q5 e z (stopped size (place ++ numbers) tt q5 sized n)
-
-    module _ (z5 : q5 ≡ 0) (q6 q7 m : ℕ) (e6 : q6 ≡ first (6 when no_row r ∷ [])) (e7 : q7 ≡ first (7 when wrong_mark_of s r held ∷ [])) (em : m ≡ or_else q6 q7) where
-      placed : m ≡ first place
-      placed = chained place tt m (cc)
-
-      pub place_stopped : (m ≡ 0 → ⊥) → m ≡ message_early s rows r out
-      unfolding message_early
-      place_stopped n = past_frame s rows own f m e z (went_on size (place ++ numbers) tt q5 sized m z5 (stopped place numbers tt m placed n))
-
-      pub message_checked : (q8 : ℕ) → m ≡ 0 → q8 ≡ first (8 when any_beyond (row_at (row_length g) rows r) ∷ []) → q8 ≡ message_early s rows r out
-      unfolding message_early
-      message_checked q8 zm e8 =
-          past_frame s rows own f q8 e z
-          (went_on size (place ++ numbers) tt q5 sized q8 z5 (went_on place numbers tt m placed q8 zm (rw eg at e8)))
+  pub message_checked : (z : ℕ) → f ≡ 0 → z ≡ first (message_own_tests s rows r out) → z ≡ message_early s rows r out
+  unfolding message_early
+  message_checked z n h = past_frame s rows (message_own_tests s rows r out) f z e n h
 
 -- 15
 module _ (s : Session) (r caller : ℕ) where

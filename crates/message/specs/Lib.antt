@@ -1,3 +1,4 @@
 pub mod Message
 pub mod Table
 pub mod Claims
+pub mod Between

@@ -1,4 +1,4 @@
--- The refusal of a finish's second call from the groups of checks that its code joins, what holds where there is none, and how it ends.
+-- The refusal of a finish's second call from the groups of checks that its code asks, what holds where there is none, and how it ends.
 use Prim.Native.Nat.{ℕ, ◌+◌, ◌≤◌, ◌<◌}
 use mathlib.Core.Path.{◌≡◌, sym, ◌∙◌}
 use mathlib.Core.List.{List, [], ◌∷◌, ◌++◌}
@@ -7,46 +7,35 @@ use borrow.Author.Tests.{ltb-false}
 use Rattle.field.specs.Arithmetic.{product}
 use Rattle.shape.specs.declared.Shape.{Shape}
 use Rattle.shape.specs.Bounds.{last_triple}
-use Rattle.shape.specs.Marks.{held, further, collected}
 use Rattle.shape.specs.Lengths.{row_length, sums_at_of}
-use Rattle.refusal.specs.Refusal.{Test, ◌when◌, first, or_else}
-use Rattle.refusal.specs.Conditions.{beyond, any_beyond}
+use Rattle.refusal.specs.Refusal.{Test, ◌when◌, first}
 use Rattle.refusal.proofs.Laws.{all_fail}
-use Rattle.refusal.proofs.Groups.{chained, stopped, went_on}
+use Rattle.refusal.proofs.Groups.{stopped, went_on}
 use Rattle.refusal.proofs.Endings.{refused, accepted}
 use Rattle.session.specs.declared.Session.{Session}
-use Rattle.session.specs.Sessions.{shape_of, factor_a_of, factor_b_of, opened_a_of, opened_b_of}
+use Rattle.session.specs.Sessions.{shape_of, opened_a_of, opened_b_of}
 use Rattle.session.specs.Rows.{width, row_at, with_row, summed}
-use Rattle.session.specs.Checks.{frame_tests, no_triple, wrong_mark_in, wrong_marks_of}
+use Rattle.session.specs.Checks.{frame_tests, no_triple}
 use Rattle.session.specs.Between.{Framed, Sized, TripleIn, Allows}
 use Rattle.session.proofs.Calls.{frame_passed, stopped_at_frame, past_frame}
-use Rattle.multiply.specs.Multiply.{product_row, with_product, factor_marks, multiply_marks_of, remembered_numbers_of, multiply_own_of, multiply_refusal_of, multiply_rows_of}
+use Rattle.multiply.specs.Multiply.{product_row, with_product, multiply_marks_of, remembered_numbers_of, multiply_own_of, multiply_refusal_of, multiply_rows_of}
 use Rattle.product_masks.proofs.Passed.{triple_below}
-use Rattle.product_masks.proofs.Joining.{joined}
 use Rattle.multiply.proofs.Passed.{multiplied}
-
-pub numbers_joined : (n : ℕ) (rows : List ℕ) (r y_a_of y_b_of u v w x y d e f g : ℕ) → u ≡ first (8 when beyond y_a_of ∷ [])
-    → v ≡ first (8 when beyond y_b_of ∷ []) → w ≡ first (8 when any_beyond (row_at n rows r) ∷ [])
-    → x ≡ first (8 when any_beyond (row_at n rows (r + 1)) ∷ []) → y ≡ first (8 when any_beyond (row_at n rows (r + 2)) ∷ [])
-    → d ≡ or_else x y → e ≡ or_else w d → f ≡ or_else v e → g ≡ or_else u f → g ≡ first (remembered_numbers_of n rows r y_a_of y_b_of)
-numbers_joined n rows r y_a_of y_b_of u v w x y d e f g eu ev ew ex ey ed ee ef eg = chained (remembered_numbers_of n rows r y_a_of y_b_of) tt g (cc)
-
-pub factors_joined : (s : Session) (r a b u v w x y : ℕ) → a ≡ factor_a_of s r → b ≡ factor_b_of s r → u ≡ first (wrong_marks_of s.marks r collected further further)
-    → v ≡ first (7 when wrong_mark_in s.marks a held ∷ []) → w ≡ first (7 when wrong_mark_in s.marks b held ∷ []) → x ≡ or_else v w → y ≡ or_else u x
-    → y ≡ first (multiply_marks_of s r)
-factors_joined s r a b u v w x y ea eb eu ev ew ex ey =
-    joined (wrong_marks_of s.marks r collected further further) (factor_marks s.marks (factor_a_of s r) (factor_b_of s r)) tt u x y eu
-    (chained (factor_marks s.marks (factor_a_of s r) (factor_b_of s r)) tt x (rw (ev, ew, ea, eb) at ex)) ey
 
 pub triple_96 : (r : ℕ) → r ≤ last_triple → r < 96
 triple_96 r h = omega arith
 
-pub own_joined : (s : Session) (g : Shape) (rows : List ℕ) (r y_a_of y_b_of u v w : ℕ) → y_a_of ≡ opened_a_of s r → y_b_of ≡ opened_b_of s r → g ≡ shape_of s
-    → u ≡ first (multiply_marks_of s r)
-    → v ≡ first (remembered_numbers_of (row_length g) rows r y_a_of y_b_of) → w ≡ or_else u v → w ≡ first (multiply_own_of s rows r)
-own_joined s g rows r y_a_of y_b_of u v w eA eB eg eu ev ew =
-    joined (multiply_marks_of s r) (remembered_numbers_of (width s) rows r (opened_a_of s r) (opened_b_of s r)) tt u v w eu
-    (rw (eg, eA, eB) at ev) ew
+-- the marks stop the call's own checks, or the numbers decide
+module _ (s : Session) (rows : List ℕ) (r u : ℕ) (eu : u ≡ first (multiply_marks_of s r)) where
+  abbrev numbers : List Test
+  numbers = remembered_numbers_of (width s) rows r (opened_a_of s r) (opened_b_of s r)
+
+  pub own_stopped : (u ≡ 0 → ⊥) → u ≡ first (multiply_own_of s rows r)
+  own_stopped = stopped (multiply_marks_of s r) numbers tt u eu
+
+  pub own_asked : u ≡ 0 → (g : Shape) (y_a_of y_b_of v : ℕ) → y_a_of ≡ opened_a_of s r → y_b_of ≡ opened_b_of s r → g ≡ shape_of s
+      → v ≡ first (remembered_numbers_of (row_length g) rows r y_a_of y_b_of) → v ≡ first (multiply_own_of s rows r)
+  own_asked z g y_a_of y_b_of v eA eB eg ev = went_on (multiply_marks_of s r) numbers tt u eu v z (rw (eg, eA, eB) at ev)
 
 module _ (s : Session) (rows : List ℕ) (r : ℕ) where
   abbrev place : List Test

@@ -10,7 +10,7 @@ use Rattle.shape.specs.Bounds.{last_triple}
 use Rattle.shape.specs.Marks.{held, further, collected as collectedMark}
 use Rattle.refusal.specs.Refusal.{Test, ◌when◌, first, AllFail}
 use Rattle.refusal.specs.Conditions.{any_beyond}
-use Rattle.refusal.proofs.Laws.{equal, not_refused}
+use Rattle.refusal.proofs.Laws.{Numbered, equal, not_refused}
 use Rattle.refusal.proofs.Groups.{fail_parts}
 use Rattle.refusal.proofs.Elements.{below_p, element_test}
 use Rattle.session.specs.declared.Session.{Session}
@@ -19,7 +19,7 @@ use Rattle.session.specs.Rows.{width, row_at}
 use Rattle.session.specs.Checks.{frame_tests, no_triple}
 use Rattle.session.specs.Between.{Framed}
 use Rattle.session.proofs.Calls.{allowed}
-use Rattle.opening.proofs.Passed.{clear_join}
+use Rattle.product_masks.proofs.Joining.{joined}
 use Rattle.multiply.specs.Multiply.{multiply_marks_of, remembered_numbers_of, multiply_refusal_of}
 
 -- 6 and 7
@@ -96,3 +96,6 @@ multiply_clear s rows r frame k w =
   where
     is : (x m : ℕ) → mark s x ≡ m → not (eqb (mark s x) m) ≡ false
     is x m e = ap not (eq-eqb (mark s x) m e)
+
+    clear_join : (xs ys : List Test) → Numbered xs → first xs ≡ 0 → first ys ≡ 0 → first (xs ++ ys) ≡ 0
+    clear_join xs ys n e f = sym (joined xs ys n 0 0 0 (sym e) (sym f) refl)

@@ -1,19 +1,21 @@
 -- The checks of an opening, joined as the code asks them, and what holds where they refuse nothing.
-use Prim.Native.Nat.{ℕ, zero, suc}
+use Prim.Native.Nat.{ℕ}
 use mathlib.Core.Path.{◌≡◌, refl, sym, ◌∙◌, ap}
+use mathlib.Core.Bool.{Bool, true, false}
 use mathlib.Core.List.{List, [], ◌∷◌, ◌++◌}
-use native.Mathlib.Omega.{arith}
+use Rattle.std.specs.Prelude.{Result}
 use lib.ListN.{length}
 use Rattle.shape.specs.declared.Shape.{Shape}
 use Rattle.shape.specs.Marks.{held}
 use Rattle.shape.specs.Lengths as Lengths
-use Rattle.refusal.specs.Refusal.{Test, ◌when◌, first, or_else, outcome}
+use Rattle.refusal.specs.declared.Refusal.{Refusal}
+use Rattle.refusal.specs.Numbers.{refused}
+use Rattle.refusal.specs.Refusal.{Test, ◌when◌, first, outcome}
 use Rattle.refusal.specs.Conditions.{wrong_length, any_beyond}
 use Rattle.refusal.proofs.Laws.{equal, all_fail}
-use Rattle.refusal.proofs.Groups.{first_chain, stopped, went_on}
+use Rattle.refusal.proofs.Groups.{stopped, went_on}
 use Rattle.session.specs.declared.Party.{Party}
 use Rattle.session.specs.declared.Session.{Session}
-use Rattle.session.specs.declared.Answer.{Answer}
 use Rattle.session.specs.Sessions.{shape_of, party_of, holding, answer}
 use Rattle.session.specs.Rows.{width, row_at}
 use Rattle.session.specs.Checks.{frame_tests, no_row, wrong_mark_of}
@@ -22,9 +24,8 @@ use Rattle.session.proofs.Passed.{row_below}
 use Rattle.session.proofs.Endings.{refused_answer}
 use Rattle.blocks.specs.Blocks as Blocks
 use Rattle.blocks.specs.Between.{Recorded, Openable}
-use Rattle.walk.specs.declared.Opened.{Opened}
 use Rattle.walk.specs.Number as Number
-use Rattle.walk.proofs.Settles.{opening_of, opened_decided}
+use Rattle.walk.specs.Number.{or_nine, value_or_zero}
 use Rattle.opening.specs.Walking.{record_length, bad_record, too_few_of, disagree, opened}
 use Rattle.opening.specs.Opening.{row_checks_of, open_checks_of, open_refusal_of, open_answer}
 use Rattle.opening.proofs.Passed as Passed
@@ -49,9 +50,12 @@ module _ (s : Session) (rows : List ℕ) (r : ℕ) (blocks : List ℕ) where
   abbrev own : List Test
   own = row_checks_of s rows r blocks
 
-  -- 6 and 7 stop the checks, or 8 of the row does, or 8 of the record is asked last
-  abbrev place : List Test
-  place = 6 when no_row r ∷ 7 when wrong_mark_of s r held ∷ []
+  -- 6 stops the checks, or 7 does, or 8 of the row does, or 8 of the record is asked last
+  abbrev row_lem : List Test
+  row_lem = 6 when no_row r ∷ []
+
+  abbrev mark_lem : List Test
+  mark_lem = 7 when wrong_mark_of s r held ∷ []
 
   abbrev row_numbers_lem : List Test
   row_numbers_lem = 8 when any_beyond (row_at (width s) rows r) ∷ []
@@ -59,23 +63,29 @@ module _ (s : Session) (rows : List ℕ) (r : ℕ) (blocks : List ℕ) where
   abbrev record_numbers_lem : List Test
   record_numbers_lem = 8 when bad_record s blocks ∷ []
 
-  module _ (a b m : ℕ) (ea : a ≡ first (6 when no_row r ∷ [])) (eb : b ≡ first (7 when wrong_mark_of s r held ∷ [])) (em : m ≡ or_else a b) where
-    placed : m ≡ first place
-    placed = cc (first_chain place tt)
+  module _ (a : ℕ) (ea : a ≡ first (6 when no_row r ∷ [])) where
+    pub row_stopped : (a ≡ 0 → ⊥) → a ≡ first own
+    row_stopped h = stopped row_lem (mark_lem ++ (row_numbers_lem ++ record_numbers_lem)) tt a ea h
 
-    pub place_stopped : (m ≡ 0 → ⊥) → m ≡ first own
-    place_stopped h = stopped place (row_numbers_lem ++ record_numbers_lem) tt m placed h
+    module _ (za : a ≡ 0) (b : ℕ) (eb : b ≡ first (7 when wrong_mark_of s r held ∷ [])) where
+      past_row : (c : ℕ) → c ≡ first (mark_lem ++ (row_numbers_lem ++ record_numbers_lem)) → c ≡ first own
+      past_row c h = went_on row_lem (mark_lem ++ (row_numbers_lem ++ record_numbers_lem)) tt a ea c za h
 
-    module _ (z : m ≡ 0) (g : Shape) (eg : g ≡ shape_of s) (c : ℕ) (ec : c ≡ first (8 when any_beyond (row_at (Lengths.row_length g) rows r) ∷ [])) where
-      numbered : c ≡ first row_numbers_lem
-      numbered = rw eg at ec
+      pub mark_stopped : (b ≡ 0 → ⊥) → b ≡ first own
+      mark_stopped h = past_row b (stopped mark_lem (row_numbers_lem ++ record_numbers_lem) tt b eb h)
 
-      pub numbers_stopped : (c ≡ 0 → ⊥) → c ≡ first own
-      numbers_stopped h = went_on place (row_numbers_lem ++ record_numbers_lem) tt m placed c z (stopped row_numbers_lem record_numbers_lem tt c numbered h)
+      module _ (zb : b ≡ 0) (g : Shape) (eg : g ≡ shape_of s) (c : ℕ) (ec : c ≡ first (8 when any_beyond (row_at (Lengths.row_length g) rows r) ∷ [])) where
+        numbered : c ≡ first row_numbers_lem
+        numbered = rw eg at ec
 
-      pub record_checked : (q : Party) (d : ℕ) → c ≡ 0 → q ≡ party_of s → d ≡ first (8 when Blocks.bad_record q blocks ∷ []) → d ≡ first own
-      record_checked q d zc eq ed =
-          went_on place (row_numbers_lem ++ record_numbers_lem) tt m placed d z (went_on row_numbers_lem record_numbers_lem tt c numbered d zc (rw eq at ed))
+        past_mark : (d : ℕ) → d ≡ first (row_numbers_lem ++ record_numbers_lem) → d ≡ first own
+        past_mark d h = past_row d (went_on mark_lem (row_numbers_lem ++ record_numbers_lem) tt b eb d zb h)
+
+        pub numbers_stopped : (c ≡ 0 → ⊥) → c ≡ first own
+        numbers_stopped h = past_mark c (stopped row_numbers_lem record_numbers_lem tt c numbered h)
+
+        pub record_checked : (q : Party) (d : ℕ) → c ≡ 0 → q ≡ party_of s → d ≡ first (8 when Blocks.bad_record q blocks ∷ []) → d ≡ first own
+        record_checked q d zc eq ed = past_mark d (went_on row_numbers_lem record_numbers_lem tt c numbered d zc (rw eq at ed))
 
   -- the frame stops the call, or the length of the record does, or it goes on
   module _ (f : ℕ) (e : f ≡ first (frame_tests s rows)) where
@@ -135,21 +145,19 @@ module _ (s : Session) (rows : List ℕ) (r : ℕ) (blocks : List ℕ) where
           abbrev number : ℕ
           number = opened s row blocks
 
-          found : ℕ → Opened
-          found k = opening_of k number
+          module _ (o : Result ℕ Refusal) (eo : o ≡ Number.opened_row q x blocks) where
+            walked : o ≡ or_nine (too_few_of s row blocks) (disagree s row blocks) number
+            walked = eo ∙ rw (eq, ex, eg)
 
-          module _ (o : Opened) (eo : o ≡ Number.opened_row q x blocks) where
-            walked : o ≡ found (first late)
-            unfolding found
-            walked = (eo ∙ rw (eq, ex, eg)) ∙ opened_decided (party_of s) row blocks
-
-            pub open_walked : holding o.refusal o.value s ≡ open_answer s rows r blocks
-            unfolding outcome found open_refusal_of
+            pub open_walked : holding (refused o) (value_or_zero o) s ≡ open_answer s rows r blocks
+            unfolding outcome open_refusal_of
             open_walked =
                 rw walked
-                (go (first late)
+                (go (too_few_of s row blocks) (disagree s row blocks)
                 ∙ ap (λ (k : ℕ). answer k number s s) (went_on (open_checks_of s rows r blocks) late tt f e (first late) z refl))
               where
-                go : (k : ℕ) → holding (found k).refusal (found k).value s ≡ answer k number s s
-                go zero = refl
-                go (suc k) = refl
+                go : (few off : Bool) → holding (refused (or_nine few off number)) (value_or_zero (or_nine few off number)) s
+                    ≡ answer (first (9 when few ∷ 13 when off ∷ [])) number s s
+                go true off = refl
+                go false true = refl
+                go false false = refl

@@ -18,7 +18,7 @@ use Rattle.session.specs.Checks.{frame_tests, no_row, wrong_mark_of}
 use Rattle.session.specs.Between.{Framed}
 use Rattle.session.proofs.Calls.{frame_passed}
 use Rattle.opening.specs.Walking.{record_length, bad_record, too_few_of, disagree}
-use Rattle.opening.specs.Opening.{open_checks_of, open_tests, open_refusal_of}
+use Rattle.opening.specs.Opening.{open_checks_of, open_refusal_of}
 
 -- ---- two groups of tests, one after the other
 

@@ -1,11 +1,11 @@
 -- The words of an opening for the party that a session is.
-use Rattle.std.specs.Prelude.{ℕ, Bool, List}
+use Rattle.std.specs.Prelude.{ℕ, Bool, Result, List}
+use Rattle.refusal.specs.declared.Refusal.{Refusal}
 use Rattle.shape.specs.Lengths as Lengths
 use Rattle.session.specs.declared.Session.{Session}
 use Rattle.session.specs.Sessions.{shape_of, party_of}
 use Rattle.blocks.specs.Blocks as Blocks
 use Rattle.accepting.specs.Accepting as Accepting
-use Rattle.walk.specs.declared.Opened.{Opened}
 use Rattle.walk.specs.Number as Number
 pub use Rattle.blocks.specs.Blocks.{block_mark, block_coefficients}
 unfoldable pub use Rattle.accepting.specs.Accepting.{walk}
@@ -49,5 +49,5 @@ disagree s = Accepting.disagree (party_of s)
 abbrev pub opened : Session → List ℕ → List ℕ → ℕ
 opened s = Accepting.opened (party_of s)
 
-abbrev pub opened_row : Session → List ℕ → List ℕ → Opened
+abbrev pub opened_row : Session → List ℕ → List ℕ → Result ℕ Refusal
 opened_row s = Number.opened_row (party_of s)

@@ -1,19 +1,23 @@
 -- The tests of the call: the walk over rising posts, how many there are, and the tests joined.
 use Prim.Native.Nat.{ℕ, suc, ◌+◌, ◌≤◌, ◌<◌}
 use mathlib.Core.Path.{◌≡◌, sym, ◌∙◌, ap, ap₂}
-use mathlib.Core.Bool.{Bool, not, ◌||◌, ◌&&◌}
+use mathlib.Core.Bool.{Bool, not, ◌||◌}
 use mathlib.Core.List.{List, [], ◌∷◌, ◌++◌}
 use native.Mathlib.Numerals.{add-one}
 use native.Mathlib.Omega.{arith}
-use borrow.Author.Tests.{eq-eqb, ne_eqb, lt-ltb, le-ltb}
+use borrow.Author.Tests.{lt-ltb, le-ltb}
 use lib.Dec.{ltb}
 use lib.ListN.{length, get_or, drop, drop_of_length-le}
 use lib.Seq.{drop-cons}
+use Rattle.std.specs.Prelude.{Result}
+use Rattle.std.specs.Result.{result_and}
 use Rattle.shape.specs.Lengths.{shape, checks_length, draw_length}
-use Rattle.refusal.specs.Refusal.{Test, ◌when◌, first, or_else}
+use Rattle.refusal.specs.declared.Refusal.{Refusal}
+use Rattle.refusal.specs.Numbers.{refused}
+use Rattle.refusal.specs.Refusal.{Test, ◌when◌, first}
 use Rattle.refusal.specs.Conditions.{beyond, station_tests}
-use Rattle.refusal.proofs.Groups.{first_chain, stopped, went_on}
-use Rattle.refusal.proofs.Laws.{first_join}
+use Rattle.refusal.proofs.Groups.{stopped, went_on}
+use Rattle.refusal.proofs.Checks.{both_asked}
 use Rattle.factory.specs.Calls.{lists_tests}
 use Rattle.otherdraw.specs.Other.{not_rising, too_many_of, own_tests, other_refusal_of}
 
@@ -47,26 +51,18 @@ module _ (n last : ℕ) (l : List ℕ) (i : ℕ) (b : Bool) where
   unfolding not_rising
   rose h inv = ap (λ (c : Bool). first (18 when c ∷ [])) (ap (not_rising n last) (sym (drop_of_length-le l h)) ∙ inv)
 
--- ---- more than t posts
-
-module _ (t secret wanted : ℕ) (posts : List ℕ) where
-  pub one_secret : secret ≡ wanted → 0 ≡ first (19 when too_many_of t secret wanted posts ∷ [])
-  one_secret e = ap (λ (c : Bool). first (19 when (not c && ltb t (length posts)) ∷ [])) (sym (eq-eqb secret wanted e))
-
-  pub many_posts : (secret ≡ wanted → ⊥) → t < length posts → 19 ≡ first (19 when too_many_of t secret wanted posts ∷ [])
-  many_posts n h = ap₂ (λ (c d : Bool). first (19 when (not c && d) ∷ [])) (sym (ne_eqb secret wanted n)) (sym (lt-ltb t (length posts) h))
-
-  pub few_posts_is : (secret ≡ wanted → ⊥) → length posts ≤ t → 0 ≡ first (19 when too_many_of t secret wanted posts ∷ [])
-  few_posts_is n h = ap₂ (λ (c d : Bool). first (19 when (not c && d) ∷ [])) (sym (ne_eqb secret wanted n)) (sym (le-ltb t (length posts) h))
-
 -- ---- the tests joined
 
-pub own_joined : (n t secret wanted : ℕ) (posts : List ℕ) (a b c d u v r : ℕ)
-    → a ≡ first (8 when beyond secret ∷ []) → b ≡ first (8 when beyond wanted ∷ []) → c ≡ first (18 when not_rising n 0 posts ∷ [])
-    → d ≡ first (19 when too_many_of t secret wanted posts ∷ []) → u ≡ or_else c d → v ≡ or_else b u → r ≡ or_else a v
-    → r ≡ first (own_tests n t secret wanted posts)
+pub own_joined : {A : Type 0} (n t secret wanted : ℕ) (posts : List ℕ) (a b c d u v r : Result A Refusal)
+    → refused a ≡ first (8 when beyond secret ∷ []) → refused b ≡ first (8 when beyond wanted ∷ []) → refused c ≡ first (18 when not_rising n 0 posts ∷ [])
+    → refused d ≡ first (19 when too_many_of t secret wanted posts ∷ []) → u ≡ result_and a b → v ≡ result_and u c → r ≡ result_and v d
+    → refused r ≡ first (own_tests n t secret wanted posts)
 own_joined n t secret wanted posts a b c d u v r ea eb ec ed eu ev er =
-    rw (er, ev, eu, ea, eb, ec, ed) (sym (first_chain (own_tests n t secret wanted posts) tt))
+    let one = 8 when beyond secret in
+    let two = 8 when beyond wanted in
+    let three = 18 when not_rising n 0 posts in
+    both_asked (one ∷ two ∷ three ∷ []) (19 when too_many_of t secret wanted posts ∷ []) tt v d r
+    (both_asked (one ∷ two ∷ []) (three ∷ []) tt u c v (both_asked (one ∷ []) (two ∷ []) tt a b u ea eb eu) ec ev) ed er
 
 module _ (n t points : ℕ) (ws draw : List ℕ) (secret wanted : ℕ) (posts out : List ℕ) (r : ℕ) (e : r ≡ first (station_tests n t points)) where
   abbrev listed : ℕ → ℕ → List Test
@@ -77,10 +73,10 @@ module _ (n t points : ℕ) (ws draw : List ℕ) (secret wanted : ℕ) (posts ou
   other_stopped h =
       stopped (station_tests n t points) (listed (checks_length (shape n t points)) (draw_length (shape n t points)) ++ own_tests n t secret wanted posts) tt r e h
 
-  pub other_went_on : r ≡ 0 → (c long a b q : ℕ) → c ≡ checks_length (shape n t points) → long ≡ draw_length (shape n t points)
-      → a ≡ first (lists_tests c ws draw long out long) → b ≡ first (own_tests n t secret wanted posts) → q ≡ or_else a b
-      → q ≡ other_refusal_of n t points ws draw secret wanted posts out
+  pub other_went_on : {A : Type 0} → r ≡ 0 → (c long : ℕ) (a b q : Result A Refusal) → c ≡ checks_length (shape n t points) → long ≡ draw_length (shape n t points)
+      → refused a ≡ first (lists_tests c ws draw long out long) → refused b ≡ first (own_tests n t secret wanted posts) → q ≡ result_and a b
+      → refused q ≡ other_refusal_of n t points ws draw secret wanted posts out
   unfolding other_refusal_of
   other_went_on z c long a b q ec el ea eb eq =
-      went_on (station_tests n t points) (listed (checks_length (shape n t points)) (draw_length (shape n t points)) ++ own_tests n t secret wanted posts) tt r e q z
-      (rw (eq, ea, eb, ← el, ← ec) (sym (first_join (listed c long) (own_tests n t secret wanted posts) tt)))
+      went_on (station_tests n t points) (listed (checks_length (shape n t points)) (draw_length (shape n t points)) ++ own_tests n t secret wanted posts) tt r e
+      (refused q) z (rw (← el, ← ec) (both_asked (listed c long) (own_tests n t secret wanted posts) tt a b q ea eb eq))

@@ -1,11 +1,13 @@
 -- The whole draw moved: f's part, and then the rest as it is, or the v's changed.
 use Prim.Native.Nat.{ℕ, zero, suc, ◌+◌, ◌*◌, ◌-◌, ◌≤◌, ◌<◌}
 use mathlib.Core.Path.{◌≡◌, refl, sym, ◌∙◌, ap, ap₂, subst}
-use mathlib.Core.Bool.{cond}
+use mathlib.Core.Bool.{true, false, cond, false≢true}
 use mathlib.Core.List.{List, [], ◌∷◌, ◌++◌}
 use native.Mathlib.Nat.{suc-mul, zero-mul}
 use native.Mathlib.Numerals.{add-one}
 use native.Mathlib.Omega.{arith}
+use borrow.Author.Tests.{eqb-true}
+use lib.Dec.{eqb}
 use lib.ListN.{length, get_or, take, drop, length-drop, length-append}
 use lib.Seq.{length-take-le, take_at}
 use Rattle.field.specs.Modulus.{p}
@@ -148,15 +150,15 @@ module _ (s : Shape) (δ : ℕ) (ws posts root draw known factor powers out o : 
   pub moved_seen : (r : List ℕ) → r ≡ vanishing (length root) posts → Seeing s ws posts r draw known factor powers o × Rooted r posts
   moved_seen r er = (moved_seeing r er, moved_rooted r er)
 
-  pub moved_none : (new : List ℕ) → length posts < 1 → new ≡ take (length root) o ++ drop (length root) draw → new ≡ moved s posts (points_of s.points ws posts) δ draw
+  pub moved_none : (new : List ℕ) → eqb (length posts) 0 ≡ true → new ≡ take (length root) o ++ drop (length root) draw → new ≡ moved s posts (points_of s.points ws posts) δ draw
   unfolding moved
   moved_none new h e = e ∙ ap₂ ◌++◌ (front ∙ f_is) (ap (λ (k : ℕ). drop k draw) g.root_length ∙ sym (none posts h))
     where
-      none : (xs : List ℕ) → length xs < 1 → cond (no_posts xs) (drop (f_length s) draw) (other_vs s posts (points_of s.points ws posts) δ draw 1 s.n) ≡ drop (f_length s) draw
+      none : (xs : List ℕ) → eqb (length xs) 0 ≡ true → cond (no_posts xs) (drop (f_length s) draw) (other_vs s posts (points_of s.points ws posts) δ draw 1 s.n) ≡ drop (f_length s) draw
       none [] h = refl
-      none (x ∷ xs) h = absurd (omega arith)
+      none (x ∷ xs) h = let z : length (x ∷ xs) ≡ 0 = eqb-true (length (x ∷ xs)) 0 h in absurd (omega arith)
 
-  pub moved_some : (r new : List ℕ) → r ≡ vanishing (length root) posts → 1 ≤ length posts
+  pub moved_some : (r new : List ℕ) → r ≡ vanishing (length root) posts → eqb (length posts) 0 ≡ false
       → new ≡ take (length r) o ++ vs_with (length factor) r (vanishing (length factor) (distinct (points_of s.points ws posts))) δ draw (length r) 0 s.n
       → new ≡ moved s posts (points_of s.points ws posts) δ draw
   unfolding moved
@@ -169,6 +171,6 @@ module _ (s : Shape) (δ : ℕ) (ws posts root draw known factor powers out o : 
       ∙ vs_are s posts (points_of s.points ws posts) δ draw s.n 0 (f_length s) (let q : f_length s ≡ f_length s + 0 * v_length s = omega (arith, zero-mul (v_length s)) in q)
       ∙ sym (some posts h))
     where
-      some : (xs : List ℕ) → 1 ≤ length xs → cond (no_posts xs) (drop (f_length s) draw) (other_vs s posts (points_of s.points ws posts) δ draw 1 s.n) ≡ other_vs s posts (points_of s.points ws posts) δ draw 1 s.n
-      some [] h = absurd (omega arith)
+      some : (xs : List ℕ) → eqb (length xs) 0 ≡ false → cond (no_posts xs) (drop (f_length s) draw) (other_vs s posts (points_of s.points ws posts) δ draw 1 s.n) ≡ other_vs s posts (points_of s.points ws posts) δ draw 1 s.n
+      some [] h = absurd (false≢true (sym h))
       some (x ∷ xs) h = refl

@@ -9,13 +9,13 @@ ghost use Rattle.otherdraw.specs.Other.{points_of, moved};
 ghost use Rattle.poly.specs.Counting.{Elements};
 ghost use Rattle.otherdraw.specs.Between.{handed, changed, scale_of, is_next_of, vs_with, Valued, Rooted, Gathering, Changing, Seeing};
 
-use crate::checks;
 use shape::Shape;
 
 // So few coefficients go by Horner's rule: their powers would take longer.
 const FEW: usize = 3;
 
 // The k numbers of `from` that stand from a on, into `to` from b on.
+#[tactic(auto, using(crate::proofs::Writing::part_handed))]
 fn hand(k: usize, a: usize, b: usize, from: &[u32], to: &mut [u32])
     requires { (a + k ≤ length from.now) × (b + k ≤ length to.old) }
     ensures { to.new ≡ handed k a b from.now to.old }
@@ -26,20 +26,21 @@ fn hand(k: usize, a: usize, b: usize, from: &[u32], to: &mut [u32])
 }
 
 // The check points of the listed posts.
+#[tactic(auto, using(crate::proofs::Writing::post_low, crate::proofs::Writing::post_room, crate::proofs::Writing::post_fits, crate::proofs::Writing::known_room, crate::proofs::Writing::known_fits, crate::proofs::Writing::known_next))]
 fn gather(shape: Shape, ws: &[u32], posts: &[u32], known: &mut [u32])
     requires { Gathering shape ws.now posts.now known.old }
     ensures { known.new ≡ points_of shape.points ws.now posts.now }
 {
     let k = shape.points;
     let mut at = 0;
-    for i in 0..posts.len() {
-        let post = checks::wide(posts[i]);
-        hand(k, (post - 1) * k, at, ws, known);
+    for &post in posts {
+        hand(k, (post as usize - 1) * k, at, ws, known);
         at += k;
     }
 }
 
 // The part from `at` on, as long as the factor, changed by a multiple of it.
+#[tactic(auto, using(crate::proofs::Writing::part_changed))]
 fn change_part(at: usize, scale: u32, factor: &[u32], draw: &[u32], out: &mut [u32])
     requires { (at + length factor.now ≤ length draw.now) × (length draw.now ≡ length out.old) }
     ensures { out.new ≡ changed at scale factor.now draw.now out.old }
@@ -49,6 +50,7 @@ fn change_part(at: usize, scale: u32, factor: &[u32], draw: &[u32], out: &mut [u
 }
 
 // The value at x of what f changes by, but for delta.
+#[tactic(auto, using(parts::proofs::Turns::elements_filled, crate::proofs::Writing::value_weighed))]
 fn value_at(x: u32, root: &[u32], powers: &mut [u32]) -> u32
     requires { Valued root.now powers.old }
     ensures { result ≡ value root.now x }
@@ -61,6 +63,7 @@ fn value_at(x: u32, root: &[u32], powers: &mut [u32]) -> u32
 }
 
 // By how much the v of post i + 1 changes at 0, where f changes by delta times `root`.
+#[tactic(auto, using(crate::proofs::Writing::scale_is))]
 fn scale_at(i: usize, delta: u32, root: &[u32], powers: &mut [u32]) -> u32
     requires { Valued root.now powers.old × (i < most_posts) }
     ensures { result ≡ scale_of delta root.now i }
@@ -70,20 +73,16 @@ fn scale_at(i: usize, delta: u32, root: &[u32], powers: &mut [u32]) -> u32
 }
 
 // Whether post i + 1 is the next of the listed posts.
+#[tactic(auto, unfolding(crate::specs::Between::is_next_of))]
 fn is_next(i: usize, next: usize, posts: &[u32]) -> bool
     requires { i < most_posts }
     ensures { result ≡ is_next_of i next posts.now }
 {
-    if posts.len() <= next {
-        return false;
-    }
-    if checks::wide(posts[next]) == i + 1 {
-        return true;
-    }
-    false
+    next < posts.len() && posts[next] as usize == i + 1
 }
 
 // The v of post i + 1, which stands from `at` on: a listed post's is kept, since f changes by 0 there. Gives the place of the next listed post.
+#[tactic(auto, using(crate::proofs::Writing::v_changed, crate::proofs::Keeping::next_fits, crate::proofs::Keeping::v_kept))]
 fn change_v(
     i: usize,
     at: usize,
@@ -136,6 +135,7 @@ fn change_vs(
 }
 
 // The v's changed, where some posts are listed.
+#[tactic(auto, using(crate::proofs::Moving::seen_changing, crate::proofs::Moving::seen_changed))]
 fn change_seen(
     shape: Shape,
     delta: u32,
@@ -164,6 +164,7 @@ fn change_seen(
 }
 
 // f changed: by delta times the product of 1 - z/j over the listed posts, which `root` then holds.
+#[tactic(auto, using(crate::proofs::Writing::f_changed))]
 fn change_f(delta: u32, posts: &[u32], draw: &[u32], root: &mut [u32], out: &mut [u32])
     requires { (1 ≤ length root.old) × Nonzero posts.now × (length root.old ≤ length draw.now)
         × (length draw.now ≡ length out.old) }
@@ -176,6 +177,7 @@ fn change_f(delta: u32, posts: &[u32], draw: &[u32], root: &mut [u32], out: &mut
 }
 
 // The rest of the draw as it is.
+#[tactic(auto, using(crate::proofs::Writing::rest_copied))]
 fn copy_rest(from: usize, draw: &[u32], out: &mut [u32])
     requires { (from ≤ length draw.now) × (length draw.now ≡ length out.old) }
     ensures { out.new ≡ take from out.old ++ drop from draw.now }
@@ -184,6 +186,7 @@ fn copy_rest(from: usize, draw: &[u32], out: &mut [u32])
 }
 
 // The other draw.
+#[tactic(auto, using(crate::proofs::Moving::posts_nonzero, crate::proofs::Moving::o_long, crate::proofs::Moving::moved_room))]
 pub fn move_draw(
     shape: Shape,
     delta: u32,
@@ -202,40 +205,11 @@ pub fn move_draw(
 {
     let first = root.len();
     change_f(delta, posts, draw, root, out);
-    if posts.len() < 1 {
+    if posts.is_empty() {
         copy_rest(first, draw, out);
-        return;
+    } else {
+        change_seen(
+            shape, delta, ws, posts, root, draw, known, factor, powers, out,
+        );
     }
-    change_seen(
-        shape, delta, ws, posts, root, draw, known, factor, powers, out,
-    );
-}
-
-// The same, for the largest rooms (`find_in_large`).
-pub fn move_large(
-    shape: Shape,
-    delta: u32,
-    ws: &[u32],
-    posts: &[u32],
-    draw: &[u32],
-    root: &mut [u32],
-    known: &mut [u32],
-    factor: &mut [u32],
-    powers: &mut [u32],
-    out: &mut [u32],
-)
-    requires { Seeing shape ws.now posts.now root.old draw.now known.old factor.old powers.old out.old }
-    ensures { out.new
-        ≡ moved shape posts.now (points_of shape.points ws.now posts.now) delta draw.now }
-{
-    let first = root.len();
-    change_f(delta, posts, draw, root, out);
-    let count = posts.len();
-    if count < 1 {
-        copy_rest(first, draw, out);
-        return;
-    }
-    change_seen(
-        shape, delta, ws, posts, root, draw, known, factor, powers, out,
-    );
 }

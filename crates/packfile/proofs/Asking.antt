@@ -6,15 +6,20 @@ use mathlib.Core.List.{List, [], ◌∷◌}
 use native.Mathlib.Omega.{arith}
 use borrow.Author.Tests.{lt-ltb, le-ltb, ne_eqb}
 use lib.ListN.{length, get_or}
+use Rattle.std.specs.Prelude.{Result}
+use Rattle.std.specs.Result.{result_and}
 use Rattle.shape.specs.declared.Shape.{Shape}
 use Rattle.shape.specs.declared.Points.{Points}
 use Rattle.shape.specs.Bounds.{row_count_of, most_points}
 use Rattle.shape.specs.Lengths.{Valid, shape, checks_length}
-use Rattle.refusal.specs.Refusal.{Test, ◌when◌, first, or_else, outcome}
+use Rattle.refusal.specs.declared.Refusal.{Refusal}
+use Rattle.refusal.specs.Numbers.{refused}
+use Rattle.refusal.specs.Refusal.{Test, ◌when◌, first, outcome}
 use Rattle.refusal.specs.Conditions.{wrong_length, any_beyond, party_tests}
 use Rattle.refusal.proofs.Laws.{all_fail, inside, equal}
-use Rattle.refusal.proofs.Groups.{first_chain, stopped, went_on}
-use Rattle.refusal.proofs.Endings.{refused}
+use Rattle.refusal.proofs.Groups.{stopped, went_on}
+use Rattle.refusal.proofs.Checks.{both_asked}
+use Rattle.refusal.proofs.Endings.{refused as refusal_ends}
 use Rattle.refusal.proofs.Ranges.{party_valid}
 use Rattle.packs.specs.Packs.{points_at_of}
 use Rattle.factory.specs.Calls.{any_bad_point}
@@ -36,21 +41,33 @@ module _ (n t post points : ℕ) (ws kinds : List ℕ) (a : ℕ) (e : a ≡ firs
   unfolding frame_refusal
   party_stopped h = stopped (party_tests n t post points) lists tt a e h
 
-  pub frame_joined : (w b c d u r : ℕ) → a ≡ 0 → w ≡ checks_length (shape n t points) → b ≡ first (4 when any_bad_point ws ∷ [])
-      → c ≡ first (5 when wrong_length ws w ∷ []) → d ≡ first (5 when wrong_length kinds row_count_of ∷ []) → u ≡ or_else c d → r ≡ or_else b u
-      → r ≡ frame_refusal n t post points ws kinds
+  pub frame_joined : {A : Type 0} (w : ℕ) (b c d u r : Result A Refusal) → a ≡ 0 → w ≡ checks_length (shape n t points)
+      → refused b ≡ first (4 when any_bad_point ws ∷ []) → refused c ≡ first (5 when wrong_length ws w ∷ [])
+      → refused d ≡ first (5 when wrong_length kinds row_count_of ∷ []) → u ≡ result_and b c → r ≡ result_and u d
+      → refused r ≡ frame_refusal n t post points ws kinds
   unfolding frame_refusal
   frame_joined w b c d u r z ew eb ec ed eu er =
-      went_on (party_tests n t post points) lists tt a e r z (rw (er, eu, eb, ec, ed, ew) (sym (first_chain lists tt)))
+      let four = 4 when any_bad_point ws in
+      let five = 5 when wrong_length ws (checks_length (shape n t points)) in
+      went_on (party_tests n t post points) lists tt a e (refused r) z
+      (both_asked (four ∷ five ∷ []) (5 when wrong_length kinds row_count_of ∷ []) tt u d r
+      (both_asked (four ∷ []) (five ∷ []) tt b c u eb (ec ∙ ap (λ (k : ℕ). first (5 when wrong_length ws k ∷ [])) ew) eu) ed er)
 
-pub drawn_joined : (s : Shape) (kinds draws : List ℕ) (len a b c d e u v w r : ℕ) → len ≡ draws_length s kinds
-    → a ≡ first (5 when wrong_length draws len ∷ []) → b ≡ first (6 when any_row late 0 kinds ∷ [])
-    → c ≡ first (7 when any_row crowded 0 kinds ∷ []) → d ≡ first (8 when any_row unknown 0 kinds ∷ [])
-    → e ≡ first (8 when any_beyond draws ∷ []) → u ≡ or_else d e → v ≡ or_else c u → w ≡ or_else b v → r ≡ or_else a w
-    → r ≡ drawn_refusal s kinds draws
+pub drawn_joined : {A : Type 0} (s : Shape) (kinds draws : List ℕ) (len : ℕ) (a b c d e u v w r : Result A Refusal) → len ≡ draws_length s kinds
+    → refused a ≡ first (5 when wrong_length draws len ∷ []) → refused b ≡ first (6 when any_row late 0 kinds ∷ [])
+    → refused c ≡ first (7 when any_row crowded 0 kinds ∷ []) → refused d ≡ first (8 when any_row unknown 0 kinds ∷ [])
+    → refused e ≡ first (8 when any_beyond draws ∷ []) → u ≡ result_and a b → v ≡ result_and u c → w ≡ result_and v d → r ≡ result_and w e
+    → refused r ≡ drawn_refusal s kinds draws
 unfolding drawn_refusal
-drawn_joined s kinds draws len a b c d e u v w r z f g h i j k l m o =
-    rw (o, m, l, k, f, g, h, i, j, z) (sym (first_chain (drawn_tests s kinds draws) tt))
+drawn_joined s kinds draws len a b c d e u v w r z ea eb ec ed ee eu ev ew er =
+    let one = 5 when wrong_length draws (draws_length s kinds) in
+    let two = 6 when any_row late 0 kinds in
+    let three = 7 when any_row crowded 0 kinds in
+    let four = 8 when any_row unknown 0 kinds in
+    both_asked (one ∷ two ∷ three ∷ four ∷ []) (8 when any_beyond draws ∷ []) tt w e r
+    (both_asked (one ∷ two ∷ three ∷ []) (four ∷ []) tt v d w
+    (both_asked (one ∷ two ∷ []) (three ∷ []) tt u c v
+    (both_asked (one ∷ []) (two ∷ []) tt a b u (ea ∙ ap (λ (k : ℕ). first (5 when wrong_length draws k ∷ [])) z) eb eu) ec ev) ed ew) ee er
 
 -- ---- 1 to 5 have passed
 module _ (n t post points : ℕ) (ws kinds draws : List ℕ) (r : ℕ) (e : r ≡ frame_refusal n t post points ws kinds) where
@@ -134,11 +151,11 @@ module _ (n t post points : ℕ) (ws kinds draws out : List ℕ) (r : ℕ) (e : 
   pub answer_refused : (a : Written) → (r ≡ 0 → ⊥) → a ≡ not_written_of r
       → a ≡ written_as (pack_refusal n t post points ws kinds draws (length out)) (file (post_at n t post points ws) kinds draws)
   answer_refused a h q =
-      q ∙ ap not_written_of (given_refusal_lem h) ∙ refused r (pack_refusal n t post points ws kinds draws (length out)) _ _ (given_refusal_lem h) h
+      q ∙ ap not_written_of (given_refusal_lem h) ∙ refusal_ends r (pack_refusal n t post points ws kinds draws (length out)) _ _ (given_refusal_lem h) h
 
   pub list_refused : (r ≡ 0 → ⊥)
       → out ≡ part_as (pack_refusal n t post points ws kinds draws (length out)) (file (post_at n t post points ws) kinds draws) out
-  list_refused h = refused r (pack_refusal n t post points ws kinds draws (length out)) _ _ (given_refusal_lem h) h
+  list_refused h = refusal_ends r (pack_refusal n t post points ws kinds draws (length out)) _ _ (given_refusal_lem h) h
 
   -- the post's points as the code has them
   module _ (z : r ≡ 0) (w : Points) (is : w ≡ points_at_of points ws (post - 1)) where

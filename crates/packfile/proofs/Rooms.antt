@@ -1,6 +1,6 @@
 -- The rooms for the numbers of a line: of few posts, and of the most.
 use Prim.Native.Nat.{ℕ, ◌*◌, ◌≤◌}
-use mathlib.Core.Path.{◌≡◌, sym, ◌∙◌}
+use mathlib.Core.Path.{◌≡◌, ◌∙◌}
 use mathlib.Core.List.{List}
 use native.Mathlib.Omega.{arith}
 use lib.ListN.{length, take}
@@ -9,27 +9,20 @@ use Rattle.shape.specs.Bounds.{longest_row}
 use Rattle.shape.specs.Lengths.{triple_length}
 use Rattle.session.specs.declared.Party.{Party}
 use Rattle.packlines.specs.Between.{FileRoom}
-use Rattle.packfile.specs.Between.{Given, line_of_few}
+use Rattle.packfile.specs.Between.{Given}
 
 module _ (p : Party) (kinds draws : List ℕ) (given : Given p kinds draws) (end : ℕ) (e : end ≡ triple_length p.shape) (room : List ℕ) where
-  module _ (m : ℕ) (sized : length room ≡ m) (fits : end ≤ m) where
-    lent_length : length (take end room) ≡ end
-    lent_length = length-take-le end room (omega arith)
+  module _ (m : ℕ) (sized : length room ≡ m) (fits : triple_length p.shape ≤ m) where
+    pub lent_length : length (take end room) ≡ end
+    lent_length = length-take-le end room (omega (arith, e))
 
-    lent_room : FileRoom p kinds draws (take end room)
+    pub lent_room : FileRoom p kinds draws (take end room)
     lent_room = record { post = given.post; rows = given.rows; drawn = given.drawn; place = lent_length ∙ e }
 
-  pub few_length : triple_length p.shape ≤ line_of_few → length room ≡ line_of_few → end ≡ length (take end room)
-  few_length h s = sym (lent_length line_of_few s (omega (arith, e, h)))
-
-  pub few_room : triple_length p.shape ≤ line_of_few → length room ≡ line_of_few → FileRoom p kinds draws (take end room)
-  few_room h s = lent_room line_of_few s (omega (arith, e, h))
-
-  pub most_length : length room ≡ 3 * longest_row → end ≡ length (take end room)
-  most_length s = sym (lent_length (3 * longest_row) s (omega (arith, given.post.valid.n_in, given.post.valid.t_in, given.post.valid.reach_in, given.post.valid.checks_in)))
-
-  pub most_room : length room ≡ 3 * longest_row → FileRoom p kinds draws (take end room)
-  most_room s = lent_room (3 * longest_row) s (omega (arith, given.post.valid.n_in, given.post.valid.t_in, given.post.valid.reach_in, given.post.valid.checks_in))
+-- a line of the most posts
+pub most_fits : (p : Party) (kinds draws : List ℕ) → Given p kinds draws → triple_length p.shape ≤ 3 * longest_row
+most_fits p kinds draws given =
+    omega (arith, given.post.valid.n_in, given.post.valid.t_in, given.post.valid.reach_in, given.post.valid.checks_in)
 
 -- a room that was written to is as long as before
 pub room_again : (p : Party) (kinds draws room new : List ℕ) → FileRoom p kinds draws room → length new ≡ length room → FileRoom p kinds draws new

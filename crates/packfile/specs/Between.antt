@@ -5,10 +5,6 @@ use Rattle.session.specs.declared.Party.{Party}
 use Rattle.kinds.specs.Kinds.{draws_length}
 use Rattle.packrow.specs.Between.{PostIn}
 
--- Ours: a line of so few numbers gets a short room. No answer depends on it.
-abbrev pub line_of_few : ℕ
-line_of_few = 288
-
 -- the kinds and draws of all rows
 pub record Given (p : Party) (kinds draws : List ℕ) : Type 0 where
   pub post : PostIn p

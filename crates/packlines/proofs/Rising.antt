@@ -12,7 +12,7 @@ use lib.ListN.{length, take, drop, get_or, length-append, length-drop, drop_of_l
 use lib.Seq.{take-add, drop-cons, drop-drop, take_at, take_all, length-take-le}
 use Rattle.shape.specs.Bounds.{row_count_of}
 use Rattle.session.specs.declared.Party.{Party}
-use Rattle.csv_fields.specs.Fields.{written, overwrite}
+use Rattle.csv_fields.specs.Fields.{overwrite}
 use Rattle.csv_fields.proofs.Overwriting.{overwrite_nothing, overwrite_twice}
 use Rattle.decimal.proofs.Positions.{drop_past}
 use Rattle.kinds.specs.Kinds.{drawn_for_of, draws_length}

@@ -8,15 +8,17 @@ ghost use Rattle.packlines.specs.File.{letter_of_of, row_line, row_lines, start_
 ghost use Rattle.packrow.specs.Between.{PostIn, KindRoom};
 ghost use Rattle.packlines.specs.Between.{FileRoom};
 
+use kinds::Kind;
 use session::Party;
 
 fn letter_of(kind: u8) -> u8
     ensures { result ≡ letter_of_of kind }
 {
-    if kind == shape::RAW { b'R' } else { b'T' }
+    if kind == Kind::Raw as u8 { b'R' } else { b'T' }
 }
 
 // How many bytes a row's line has; an empty row has none.
+#[tactic(auto, using(crate::proofs::Spelt::none_measured, crate::proofs::Spelt::some_measured, crate::proofs::Spelt::few_lent, crate::proofs::Spelt::front_size))]
 fn line_len(party: Party, row: usize, kind: u8, draw: &[u32], room: &mut [u32]) -> usize
     requires { KindRoom party kind draw.now room.old × (row < row_count_of) }
     ensures { result ≡ length (row_line party row kind draw.now) }
@@ -30,6 +32,7 @@ fn line_len(party: Party, row: usize, kind: u8, draw: &[u32], room: &mut [u32]) 
 }
 
 // The line at the start of a part; its length.
+#[tactic(auto, using(crate::proofs::Spelt::none_measured, crate::proofs::Spelt::none_laid, crate::proofs::Spelt::some_room, crate::proofs::Spelt::some_put, crate::proofs::Spelt::few_lent, crate::proofs::Spelt::front_size))]
 fn put_line(
     party: Party,
     row: usize,
@@ -51,23 +54,24 @@ fn put_line(
 }
 
 // How many bytes all rows' lines have.
+#[tactic(auto, using(crate::proofs::Rising::reached_start, crate::proofs::Rising::draw_lent, crate::proofs::Rising::row_in, crate::proofs::Rising::reached_end))]
 fn lines_len(party: Party, kinds: &[u8], draws: &[u32], room: &mut [u32]) -> usize
     requires { FileRoom party kinds.now draws.now room.old }
     ensures { result ≡ length (row_lines party 0 kinds.now draws.now) }
 {
     let shape = party.shape;
     let mut from = 0;
-    let mut sum: usize = 0;
-    for row in 0..kinds.len() {
-        let kind = kinds[row];
+    let mut sum = 0;
+    for (row, &kind) in kinds.iter().enumerate() {
         let end = from + kinds::drawn_for(shape, kind);
-        sum = sum + line_len(party, row, kind, &draws[from..end], room);
+        sum += line_len(party, row, kind, &draws[from..end], room);
         from = end;
     }
     sum
 }
 
 // Each line goes to the next part of the list.
+#[tactic(auto, using(crate::proofs::Rising::laid_start, crate::proofs::Rising::laid_at, crate::proofs::Rising::laid_whole))]
 fn put_lines(party: Party, kinds: &[u8], draws: &[u32], room: &mut [u32], out: &mut [u8]) -> usize
     requires { FileRoom party kinds.now draws.now room.old × (length (row_lines party 0 kinds.now draws.now) ≤ length out.old) }
     ensures value { result ≡ length (row_lines party 0 kinds.now draws.now) }
@@ -76,10 +80,9 @@ fn put_lines(party: Party, kinds: &[u8], draws: &[u32], room: &mut [u32], out: &
     let shape = party.shape;
     let mut from = 0;
     let mut at = 0;
-    for row in 0..kinds.len() {
-        let kind = kinds[row];
+    for (row, &kind) in kinds.iter().enumerate() {
         let end = from + kinds::drawn_for(shape, kind);
-        at = at + put_line(party, row, kind, &draws[from..end], room, &mut out[at..]);
+        at += put_line(party, row, kind, &draws[from..end], room, &mut out[at..]);
         from = end;
     }
     at
@@ -96,6 +99,7 @@ fn start_letter(points: usize) -> u8
 }
 
 // How many bytes the start line has: `S` with one check point, `W` with two.
+#[tactic(auto, using(crate::proofs::Entire::own_within, crate::proofs::Entire::own_lent, crate::proofs::Entire::own_few, crate::proofs::Entire::start_measured))]
 fn start_len(party: Party) -> usize
     requires { PostIn party }
     ensures { result ≡ length (start_line party) }
@@ -109,6 +113,7 @@ fn start_len(party: Party) -> usize
 }
 
 // The start line at the start of a part; its length.
+#[tactic(auto, using(crate::proofs::Entire::own_within, crate::proofs::Entire::own_lent, crate::proofs::Entire::start_enough, crate::proofs::Entire::start_long, crate::proofs::Entire::start_laid))]
 fn put_start(party: Party, out: &mut [u8]) -> usize
     requires { PostIn party × (length (start_line party) ≤ length out.old) }
     ensures value { result ≡ length (start_line party) }
@@ -123,6 +128,7 @@ fn put_start(party: Party, out: &mut [u8]) -> usize
 }
 
 // How many bytes the file has.
+#[tactic(auto, using(crate::proofs::Entire::file_measured, crate::proofs::Entire::file_length_fits))]
 pub fn file_len(party: Party, kinds: &[u8], draws: &[u32], room: &mut [u32]) -> usize
     requires { FileRoom party kinds.now draws.now room.old }
     ensures { result ≡ length (file party kinds.now draws.now) }
@@ -131,6 +137,7 @@ pub fn file_len(party: Party, kinds: &[u8], draws: &[u32], room: &mut [u32]) -> 
 }
 
 // The file at the start of the list.
+#[tactic(auto, using(crate::proofs::Entire::start_room, crate::proofs::Entire::start_within, crate::proofs::Entire::lines_room, crate::proofs::Entire::file_laid))]
 pub fn put_file(party: Party, kinds: &[u8], draws: &[u32], room: &mut [u32], out: &mut [u8])
     requires { FileRoom party kinds.now draws.now room.old × (length (file party kinds.now draws.now) ≤ length out.old) }
     ensures { out.new ≡ overwrite 0 (file party kinds.now draws.now) out.old }

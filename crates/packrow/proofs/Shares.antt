@@ -6,21 +6,24 @@ use native.Mathlib.Nat.{add-sub_cancel_left}
 use native.Mathlib.Numerals.{add-one}
 use native.Mathlib.Decide.{dec_le}
 use native.Mathlib.Omega.{arith}
-use borrow.Author.Tests.{eq-eqb, ne_eqb}
 use borrow.Rule.Slice.PartMut.{put_mid}
 use lib.ListN.{length, take, drop, get_or, length-append, length-drop}
 use lib.Seq.{length-take-le, take_all, take_at}
+use Rattle.std.specs.Prelude.{Result, Ok, Err}
 use Rattle.field.specs.Arithmetic.{product}
 use Rattle.shape.specs.declared.Points.{Points}
-use Rattle.shape.specs.Lengths.{row_length, triple_length, draw_length}
-use Rattle.shape.specs.Marks.{raw, unused}
+use Rattle.shape.specs.Lengths.{row_length, triple_length, draw_length, triple_draw_length}
 use Rattle.session.specs.declared.Party.{Party}
 use Rattle.parts.specs.Draw.{part, first_draw, second_draw, third_draw}
 use Rattle.packs.specs.Packs.{points_at_of, points_from, parts_from}
 use Rattle.packs.specs.Between.{PostsRoom}
 use Rattle.packs.proofs.Rest.{rest_of}
 use Rattle.parts.proofs.Halves.{fronted, back, front_length, back_length, joined}
-use Rattle.kinds.specs.Kinds.{drawn_for_of}
+use Rattle.refusal.specs.declared.Refusal.{Refusal}
+use Rattle.kinds.specs.declared.Kind.{Kind}
+use Rattle.kinds.specs.declared.Kind.TheVariants.{Empty, Raw, Triple}
+use Rattle.kinds.specs.Kinds.{kind_of, drawn_for_of}
+use Rattle.kinds.proofs.Kinded.{of_raw, of_triple, of_empty, of_none}
 use Rattle.packrow.specs.Numbers.{post_part, triple_parts, numbers_of_of}
 use Rattle.packrow.specs.Between.{RestRoom, RowRoom, FactorsRoom, TripleRoom, KindRoom, Front}
 
@@ -160,8 +163,14 @@ module _ (p : Party) (d w : ℕ) (draw out : List ℕ) (room : TripleRoom p draw
         ∙ append_assoc (post_part p (first_draw (draw_length p.shape) draw)) _ _
 
 -- ---- the numbers of a line, by the row's kind
-module _ (p : Party) (k : ℕ) (draw room : List ℕ) (h : KindRoom p k draw room) where
-  module _ (e : k ≡ raw) (w : ℕ) (ew : w ≡ row_length p.shape) where
+module _ (p : Party) (k : ℕ) (draw room : List ℕ) (h : KindRoom p k draw room) (x : Result Kind Refusal) (q : x ≡ kind_of k) where
+  abbrev rows : List ℕ
+  rows = post_part p draw
+
+  abbrev triple : List ℕ
+  triple = triple_parts p draw
+
+  module _ (d : Kind) (e : x ≡ Ok d) (g : d ≡ Raw) (w : ℕ) (ew : w ≡ row_length p.shape) where
     raw_sized : length room ≡ w + 2 * w
     raw_sized = omega (arith, h.place, ew)
 
@@ -170,33 +179,42 @@ module _ (p : Party) (k : ℕ) (draw room : List ℕ) (h : KindRoom p k draw roo
 
     pub raw_room : RowRoom p draw (take w room)
     unfolding drawn_for_of
-    raw_room = record { post = h.post; drawn = h.drawn ∙ rw (eq-eqb k raw e); room = raw_lent ∙ ew }
+    raw_room =
+        record { post = h.post; drawn = h.drawn ∙ of_raw (draw_length p.shape) (triple_draw_length p.shape) 0 k x q d e g; room = raw_lent ∙ ew }
 
     pub raw_front : (ys : List ℕ) → length ys ≡ length (take w room) → ys ≡ post_part p draw → Front w (ys ++ drop w room) (numbers_of_of p k draw)
     unfolding numbers_of_of
     raw_front ys n f =
         let l : length ys ≡ w = n ∙ raw_lent in
-        rw (eq-eqb k raw e) (record {
+        rw (of_raw rows triple [] k x q d e g) (record {
           count = sym l ∙ ap length f;
           within = omega (arith, length-append ys (drop w room));
           front = take_at ys (drop w room) w l ∙ f;
         })
 
-  module _ (g : k ≡ raw → ⊥) where
-    pub triple_room : k ≡ unused → TripleRoom p draw room
+  module _ (d : Kind) (e : x ≡ Ok d) (g : d ≡ Triple) where
+    pub triple_room : TripleRoom p draw room
     unfolding drawn_for_of
-    triple_room e = record { post = h.post; drawn = h.drawn ∙ rw (ne_eqb k raw g, eq-eqb k unused e); room = h.place }
+    triple_room =
+        record { post = h.post; drawn = h.drawn ∙ of_triple (draw_length p.shape) (triple_draw_length p.shape) 0 k x q d e g; room = h.place }
 
-    pub triple_front : (r : ℕ) (l : List ℕ) → k ≡ unused → r ≡ triple_length p.shape → length l ≡ length room → l ≡ triple_parts p draw
+    pub triple_front : (r : ℕ) (l : List ℕ) → r ≡ triple_length p.shape → length l ≡ length room → l ≡ triple_parts p draw
         → Front r l (numbers_of_of p k draw)
     unfolding numbers_of_of
-    triple_front r l e f n q =
-        rw (ne_eqb k raw g, eq-eqb k unused e) (record {
-          count = omega (arith, h.place, ap length q);
+    triple_front r l f n i =
+        rw (of_triple rows triple [] k x q d e g) (record {
+          count = omega (arith, h.place, ap length i);
           within = omega (arith, h.place);
-          front = take_all r l (omega (arith, h.place)) ∙ q;
+          front = take_all r l (omega (arith, h.place)) ∙ i;
         })
 
-    pub none_front : (k ≡ unused → ⊥) → Front 0 room (numbers_of_of p k draw)
-    unfolding numbers_of_of
-    none_front e = rw (ne_eqb k raw g, ne_eqb k unused e) (record { count = refl; within = omega arith; front = refl })
+  none : Front 0 room []
+  none = record { count = refl; within = omega arith; front = refl }
+
+  pub empty_front : x ≡ Ok Empty → Front 0 room (numbers_of_of p k draw)
+  unfolding numbers_of_of
+  empty_front e = rw (of_empty rows triple [] k x q e) none
+
+  pub unknown_front : (r : Refusal) → x ≡ Err r → Front 0 room (numbers_of_of p k draw)
+  unfolding numbers_of_of
+  unknown_front r e = rw (of_none rows triple [] k x q r e) none

@@ -11,7 +11,8 @@ ghost use Rattle.parts.specs.Between.{Drawn};
 
 use shape::{Points, Shape};
 
-// The public sums of the first row, to their place in the row from `at` on.
+// The public sums of the first row, to their place in the row from `at` on. `copy_within` would have the library need `memmove`; it needs
+// `memcpy` and `memset` alone.
 fn pass_sums_on(shape: Shape, at: usize, out: &mut [u32])
     requires { RowAt shape at out.old }
     ensures { out.new ≡ passed_on shape at out.old }
@@ -27,6 +28,7 @@ fn pass_sums_on(shape: Shape, at: usize, out: &mut [u32])
 }
 
 // The check points of the j-th post of a list of `count` posts' points.
+#[tactic(auto, using(crate::proofs::Posts::points_fit, crate::proofs::Posts::first_fits, crate::proofs::Posts::next_fits, crate::proofs::Posts::second_fits, crate::proofs::Posts::first_in, crate::proofs::Posts::one_there, crate::proofs::Posts::second_in, crate::proofs::Posts::two_there))]
 pub fn points_at(shape: Shape, points: &[u32], j: usize, count: usize) -> Points
     requires { Valid shape × (length points.now ≡ shape.points * count) × (count ≤ shape.n) × (j < count) }
     ensures { result ≡ points_at_of shape.points points.now j }
@@ -44,7 +46,7 @@ pub fn points_at(shape: Shape, points: &[u32], j: usize, count: usize) -> Points
 }
 
 // The middle part of `out` is lent for one post after the other; `i` posts stand before the first. The public sums stand in the first
-// row.
+// row, from which they are passed on: so the list is not cut into rows, and each part's place is counted.
 fn write_parts(shape: Shape, i: usize, count: usize, points: &[u32], vs: &[u32], out: &mut [u32])
     requires { Drawn shape vs.now × PartsRoom shape i count points.now out.old }
     ensures { out.new
@@ -63,6 +65,7 @@ fn write_parts(shape: Shape, i: usize, count: usize, points: &[u32], vs: &[u32],
 
 // The parts of `count` posts that have these check points; `i` posts stand before the first. A draw is its first number and the rest, so
 // that f's constant need not stand in it.
+#[tactic(auto, using(crate::proofs::Rest::higher_length, crate::proofs::Rest::higher_fits, crate::proofs::Rest::vs_drawn, crate::proofs::Rest::none_there, crate::proofs::Rest::first_inside, crate::proofs::Rest::first_lent, crate::proofs::Rest::first_row, crate::proofs::Rest::posts_written))]
 pub fn write_posts(
     shape: Shape,
     i: usize,
@@ -92,6 +95,7 @@ pub fn write_posts(
 }
 
 // The packs of a row whose draw has all its numbers.
+#[tactic(auto, using(crate::proofs::Rest::some_drawn, crate::proofs::Rest::row_room, crate::proofs::Rest::row_written))]
 pub fn write_row(shape: Shape, points: &[u32], draw: &[u32], out: &mut [u32])
     requires { Fine shape points.now draw.now (draw_length shape) out.old (packs_length shape) }
     ensures { out.new ≡ packs shape points.now draw.now }
@@ -101,6 +105,7 @@ pub fn write_row(shape: Shape, points: &[u32], draw: &[u32], out: &mut [u32])
 }
 
 // The packs of l, then of l'.
+#[tactic(auto, using(crate::proofs::Factors::two_drawn, crate::proofs::Factors::first_drawn, crate::proofs::Factors::first_lent, crate::proofs::Factors::first_fine, crate::proofs::Factors::second_fine, crate::proofs::Factors::factors_written))]
 fn write_factors(shape: Shape, points: &[u32], draw: &[u32], out: &mut [u32])
     requires { FactorsRoom shape points.now draw.now out.old }
     ensures { out.new
@@ -115,6 +120,7 @@ fn write_factors(shape: Shape, points: &[u32], draw: &[u32], out: &mut [u32])
 }
 
 // The packs of a triple; f(0) of l'' is the product of those of l and l'.
+#[tactic(auto, using(crate::proofs::Factors::factors_lent, crate::proofs::Factors::third_drawn, crate::proofs::Factors::factors_room, crate::proofs::Factors::third_room, crate::proofs::Factors::triple_written_is))]
 pub fn write_triple(shape: Shape, points: &[u32], draw: &[u32], out: &mut [u32])
     requires { Fine shape points.now draw.now (triple_draw_length shape) out.old (3 * packs_length shape) }
     ensures { out.new ≡ triple_packs shape points.now draw.now }

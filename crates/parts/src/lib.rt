@@ -17,6 +17,7 @@ use shape::{Points, Shape};
 const FEW: usize = 2;
 
 // The polynomial of post i + 1.
+#[tactic(auto, using(crate::proofs::Turns::v_room, crate::proofs::Turns::v_fits, crate::proofs::Turns::v_end_fits, crate::proofs::Turns::v_bytes_fit, crate::proofs::Turns::v_is, crate::proofs::Turns::v_length_is))]
 fn v<'a>(shape: Shape, vs: &'a [u32], i: usize) -> &'a [u32]
     requires { Valid shape × (length vs.now ≡ shape.n * v_length shape) × (i < shape.n) }
     ensures result_value { result.now ≡ v_of shape vs.now i }
@@ -28,7 +29,8 @@ fn v<'a>(shape: Shape, vs: &'a [u32], i: usize) -> &'a [u32]
     &vs[at..end]
 }
 
-// The sum of the products of each polynomial's coefficients with the powers in front, behind them: each polynomial's h-th check value.
+// The sum of the products of each polynomial's coefficients with the powers in front, behind them: each polynomial's h-th check value. The powers
+// are read from the list that is written at every so many places, which an iterator cannot lend at once.
 fn weigh_each(shape: Shape, h: usize, vs: &[u32], out: &mut [u32])
     requires { Drawn shape vs.now × ChecksRoom shape out.old × Elements (take (v_length shape) out.old) × (h < shape.points) }
     ensures { drop (v_length shape) out.new
@@ -52,13 +54,13 @@ fn evaluate_each(shape: Shape, w: u32, vs: &[u32], out: &mut [u32])
     requires { Valid shape × (length vs.now ≡ shape.n * v_length shape) × (length out.old ≡ shape.n) }
     ensures { out.new ≡ each_from 0 shape.n (value_of shape w vs.now) }
 {
-    let n = shape.n;
-    for i in 0..n {
-        out[i] = poly::evaluate(v(shape, vs, i), w);
+    for (i, place) in out.iter_mut().enumerate() {
+        *place = poly::evaluate(v(shape, vs, i), w);
     }
 }
 
 // The h-th check value of each post, behind room for the powers of w; the other check values are as they were.
+#[tactic(auto, using(crate::proofs::Row::checks_lent, crate::proofs::Row::filled_room, crate::proofs::Row::filled_elements, crate::proofs::Row::checks_written))]
 fn weigh_at(shape: Shape, h: usize, w: u32, vs: &[u32], out: &mut [u32])
     requires { Drawn shape vs.now × ChecksRoom shape out.old × (h < shape.points) }
     ensures { drop (v_length shape) out.new
@@ -70,6 +72,7 @@ fn weigh_at(shape: Shape, h: usize, w: u32, vs: &[u32], out: &mut [u32])
 }
 
 // vj(w) for each post j and each point w, behind room for the powers of a point. So few coefficients are with one point only.
+#[tactic(auto, using(crate::proofs::Row::horner_room, crate::proofs::Row::horner_written, crate::proofs::Row::one_pass, crate::proofs::Row::two_passes))]
 fn write_check_values(shape: Shape, w: Points, vs: &[u32], out: &mut [u32])
     requires { Drawn shape vs.now × ChecksRoom shape out.old }
     ensures { drop (v_length shape) out.new ≡ check_values shape w vs.now }
@@ -87,6 +90,7 @@ fn write_check_values(shape: Shape, w: Points, vs: &[u32], out: &mut [u32])
 }
 
 // f(x).
+#[tactic(auto, using(crate::proofs::Turns::elements_filled, crate::proofs::Turns::f_horner, crate::proofs::Turns::f_value))]
 fn shared_value(constant: u32, higher: &[u32], x: u32, powers: &mut [u32]) -> u32
     requires { (length higher.now ≤ length powers.old) × (length powers.old ≤ longest_v) }
     ensures { result ≡ value (constant ∷ higher.now) x }
@@ -99,6 +103,7 @@ fn shared_value(constant: u32, higher: &[u32], x: u32, powers: &mut [u32]) -> u3
 }
 
 // mj = vj(0) + f(j), of post j = i + 1.
+#[tactic(auto, using(crate::proofs::Turns::some_coefficient, crate::proofs::Turns::post_fits, crate::proofs::Turns::higher_room, crate::proofs::Turns::powers_short, crate::proofs::Turns::sum_is))]
 fn public_sum(
     shape: Shape,
     constant: u32,
@@ -115,7 +120,7 @@ fn public_sum(
     field::add(own[0], shared_value(constant, higher, j, powers))
 }
 
-// m1 to mn, at their place in a row. The powers of a point stand in front meanwhile.
+// m1 to mn, at their place in a row. The powers of a point stand in front meanwhile, so that a turn lends them and then writes behind them.
 pub fn write_sums(shape: Shape, constant: u32, higher: &[u32], vs: &[u32], out: &mut [u32])
     requires { Drawn shape vs.now × Higher shape higher.now × (length out.old ≡ row_length shape) }
     ensures { drop (sums_at_of shape) out.new ≡ sums shape (constant ∷ higher.now) vs.now }
@@ -131,6 +136,7 @@ pub fn write_sums(shape: Shape, constant: u32, higher: &[u32], vs: &[u32], out: 
 }
 
 // The part of post i + 1, whose check points are w, before the public sums, which stand at their place.
+#[tactic(auto, using(crate::proofs::Row::front_lent, crate::proofs::Row::front_room, crate::proofs::Row::own_lent, crate::proofs::Row::own_fits, crate::proofs::Row::part_written))]
 pub fn write_part(shape: Shape, i: usize, w: Points, vs: &[u32], out: &mut [u32])
     requires { Drawn shape vs.now × (i < shape.n) × (length out.old ≡ row_length shape) }
     ensures { out.new ≡ part_with shape vs.now (drop (sums_at_of shape) out.old) i w }

@@ -11,7 +11,8 @@ use lib.Seq.{drop_at}
 use Rattle.shape.specs.Lengths.{rows_length}
 use Rattle.refusal.specs.Refusal.{Test, ◌when◌, first, outcome}
 use Rattle.refusal.proofs.Laws.{all_fail, or_false}
-use Rattle.decimal.specs.declared.Field.TheVariants.{Number}
+use Rattle.decimal.specs.Numeral.{number}
+use Rattle.decimal.proofs.Numerals.{number_same}
 use Rattle.decimal.specs.Numeral.{tens, size, numeral, field_of, leading}
 use Rattle.decimal.proofs.Numerals.{length_numeral, numeral_reads}
 use Rattle.csv_fields.specs.Fields.{fields, written, Small, Parsed, parsed, malformed, numbers_of_of}
@@ -52,9 +53,9 @@ says_text row posts h = says _ row posts (access_bytes.read row posts (small (ro
 no_comma : (x y : ℕ) → x < tens 10 → y < tens 10 → numeral x ++ (10 ∷ []) ≡ numeral y ++ (44 ∷ 10 ∷ []) → ⊥
 unfolding leading
 no_comma x y h g q =
-    let f : Number x (0 + size x) ≡ Number y (0 + size y) =
+    let f : number x (0 + size x) ≡ number y (0 + size y) =
     sym (numeral_reads x 0 (10 ∷ []) h refl) ∙ ap (λ (l : List ℕ). field_of l 0) q ∙ numeral_reads y 0 (44 ∷ 10 ∷ []) g refl in
-    let p : x ≡ y = cc in
+    let p : x ≡ y = (number_same x (0 + size x) y (0 + size y) f).0 in
     let r : ◌≡◌ {A = List ℕ} (10 ∷ []) (44 ∷ 10 ∷ []) =
     sym (drop_at (numeral x) (10 ∷ []) (size x) (length_numeral x)) ∙ ap (drop (size x)) q
     ∙ ap (λ (k : ℕ). drop (size k) (numeral y ++ (44 ∷ 10 ∷ []))) p ∙ drop_at (numeral y) (44 ∷ 10 ∷ []) (size y) (length_numeral y) in

@@ -5,7 +5,8 @@ use mathlib.Core.List.{List, [], ◌∷◌, ◌++◌, append_assoc}
 use native.Mathlib.Omega.{arith}
 use lib.ListN.{length, get_or, drop}
 use lib.Seq.{drop_at}
-use Rattle.decimal.specs.declared.Field.TheVariants.{Number}
+use Rattle.decimal.specs.Numeral.{number}
+use Rattle.decimal.proofs.Numerals.{number_same}
 use Rattle.decimal.specs.Numeral.{size, numeral, leading, field_of}
 use Rattle.decimal.proofs.Numerals.{length_numeral, numeral_reads}
 use Rattle.csv_fields.specs.Fields.{fields, written, Parsed, parsed, malformed, Small}
@@ -38,9 +39,9 @@ one_text (x ∷ xs) [] h g e = let z : ◌≡◌ {A = ℕ} 44 10 = ap (λ (l : L
 one_text (x ∷ xs) (y ∷ ys) h g e =
     let q : numeral x ++ feed xs ≡ numeral y ++ feed ys =
     sym (append_assoc (numeral x) (fields xs) (10 ∷ [])) ∙ ap (drop 1) e ∙ append_assoc (numeral y) (fields ys) (10 ∷ []) in
-    let f : Number x (0 + size x) ≡ Number y (0 + size y) =
+    let f : number x (0 + size x) ≡ number y (0 + size y) =
     sym (numeral_reads x 0 (feed xs) h.0 (no_digit xs)) ∙ ap (λ (l : List ℕ). field_of l 0) q ∙ numeral_reads y 0 (feed ys) g.0 (no_digit ys) in
-    let p : x ≡ y = cc in
+    let p : x ≡ y = (number_same x (0 + size x) y (0 + size y) f).0 in
     let r : feed xs ≡ feed ys =
     sym (drop_at (numeral x) (feed xs) (size x) (length_numeral x)) ∙ ap (drop (size x)) q
     ∙ ap (λ (k : ℕ). drop (size k) (numeral y ++ feed ys)) p ∙ drop_at (numeral y) (feed ys) (size y) (length_numeral y) in

@@ -16,8 +16,8 @@ use Rattle.decimal.proofs.Positions.{head_at, drop_past}
 use Rattle.csv_fields.specs.Fields.{fields, parsed, push, fields_at, ended, Small}
 use Rattle.csv_fields.proofs.Reading.{fields_read}
 use Rattle.csv_fields.proofs.Overwriting.{length_fields_le}
-use Rattle.street_reading.specs.declared.StartForm.{StartForm}
-use Rattle.street_reading.specs.declared.StartForm.TheVariants.{Settings}
+use Rattle.std.specs.Prelude.{Option, Some}
+use Rattle.street_reading.specs.declared.Settings.{Settings}
 use Rattle.street_reading.specs.Starting.{dash, dash_at_of, behind_posts, start_form, start_of, start_said}
 use Rattle.performing_law.specs.Lines.{TenDigits}
 use Rattle.performing_law.specs.Starting.{OneOrTwo, start_letter_of}
@@ -88,8 +88,8 @@ module _ (n post : ℕ) (ws : List ℕ) (o : OneOrTwo ws) (h : TenDigits (n ∷ 
   abbrev with_tail : List ℕ → List ℕ
   with_tail tail = line (start_letter_of ws) n tail
 
-  abbrev Said : ℕ → StartForm
-  Said t = Settings n t post (length ws) (get_or ws 0 0) (get_or ws 1 0)
+  abbrev Said : ℕ → Option Settings
+  Said t = Some (record { n = n; t = t; post = post; points = length ws; first = get_or ws 0 0; second = get_or ws 1 0 })
 
   said : (tail : List ℕ) (t next : ℕ) → start_form (length ws) (with_tail tail) ≡ parsed (n ∷ t ∷ own) next → start_said (with_tail tail) ≡ Said t
   unfolding start_said

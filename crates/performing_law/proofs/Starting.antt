@@ -14,7 +14,7 @@ use Rattle.csv_fields.specs.Fields.{Parsed, parsed, malformed, fields_at}
 use Rattle.session.specs.declared.Session.{Session}
 use Rattle.session.specs.Sessions.{as_many_of, session_of}
 use Rattle.street_store.specs.Sizes.{longest_line}
-use Rattle.street_reading.specs.declared.StartForm.TheVariants.{Wrong}
+use Rattle.std.specs.Prelude.{None}
 use Rattle.street_reading.specs.Starting.{starts_with, dash, start_form, start_of, start_said}
 use Rattle.street_states.specs.declared.State.{State}
 use Rattle.street_states.specs.States.{After, begun_with, refusing, leaving}
@@ -148,7 +148,7 @@ module _ (st : State) (store : List ℕ) (e : st.started ≡ false) (letter : �
   abbrev text : List ℕ
   text = letter ∷ 44 ∷ rest
 
-  wrong : start_form a.points text ≡ malformed → start_said text ≡ Wrong
+  wrong : start_form a.points text ≡ malformed → start_said text ≡ None
   unfolding start_said
   wrong f = ap (λ (j : ℕ). start_of j (start_form j text)) a.says ∙ ap (start_of a.points) f
 

@@ -2,6 +2,10 @@
 use Prim.Native.Nat.{ℕ, suc, ◌+◌, ◌*◌, ◌-◌, ◌%◌, ◌≤◌, ◌<◌}
 use mathlib.Core.Path.{◌≡◌, refl, sym, ◌∙◌, ap}
 use mathlib.Core.List.{List, [], ◌∷◌, ◌++◌, append_assoc, append-nil}
+use Rattle.std.specs.List.{fold}
+use Rattle.std.proofs.lemmas.List.{take-append-drop, reverse-append}
+use Rattle.std.proofs.lemmas.List.Sums.{fold-append}
+use mathlib.Core.List.{reverse}
 use native.Mathlib.Nat.{sub-zero, le_of_suc-le-suc, not-suc-le-zero, mul-zero, add-zero}
 use native.Mathlib.Numerals.{add-one}
 use native.Mathlib.Decide.{dec_le, dec_lt}
@@ -17,56 +21,46 @@ use Rattle.poly.specs.Interpolation.{nodal}
 use Rattle.poly.proofs.Bounds.{weighted_below, nodal_below}
 
 -- Horner's rule, from the last coefficient down
-module _ (cs : List ℕ) (x : ℕ) where
-  pub horner_none : length cs ≡ 0 → 0 ≡ value cs x
-  unfolding value
-  horner_none e = none cs e
-    where
-      none : (l : List ℕ) → length l ≡ 0 → 0 ≡ value l x
-      none [] e = refl
-      none (c ∷ l) e = absurd (omega (arith, e))
 
-  pub horner_one : (v : ℕ) → length cs < 2 → (length cs ≡ 0 → ⊥) → v ≡ sum (get_or cs 0 0) (product x 0) → v ≡ value cs x
-  unfolding value
-  horner_one v few some e = one cs few some e
-    where
-      one : (l : List ℕ) → length l < 2 → (length l ≡ 0 → ⊥) → v ≡ sum (get_or l 0 0) (product x 0) → v ≡ value l x
-      one [] few some e = absurd (some refl)
-      one (c ∷ []) few some e = e
-      one (c ∷ d ∷ l) few some e = absurd (omega (arith, few))
+-- what is multiplied needs no remainder
+whole : (x b : ℕ) → product x (sum b (product x 0)) ≡ product x b
+unfolding sum product
+whole x b = mul_mod_mod x (b + (x * 0) % p) p ∙ ap (λ (z : ℕ). (x * (b + z % p)) % p) (mul-zero x) ∙ ap (λ (z : ℕ). (x * z) % p) (add-zero b)
 
-  -- what is multiplied needs no remainder
-  whole : (b : ℕ) → product x (sum b (product x 0)) ≡ product x b
-  unfolding sum product
-  whole b = mul_mod_mod x (b + (x * 0) % p) p ∙ ap (λ (z : ℕ). (x * (b + z % p)) % p) (mul-zero x) ∙ ap (λ (z : ℕ). (x * z) % p) (add-zero b)
+horner : (cs rest : List ℕ) (x r : ℕ) → r ≡ value rest x → fold (λ v c. sum c (product x v)) r (reverse cs) ≡ value (cs ++ rest) x
+unfolding value
+horner [] rest x r e = e
+horner (c ∷ cs) rest x r e =
+    ap (fold (λ v c. sum c (product x v)) r) (reverse-append (c ∷ []) cs) ∙ fold-append (λ v c. sum c (product x v)) r (reverse cs) (c ∷ [])
+    ∙ ap (λ (v : ℕ). sum c (product x v)) (horner cs rest x r e)
 
-  -- the last two coefficients
-  pub horner_start : (r : ℕ) → 2 ≤ length cs → r ≡ sum (get_or cs (length cs - 2) 0) (product x (get_or cs (length cs - 2 + 1) 0))
-      → r ≡ value (drop (length cs - 2) cs) x
-  unfolding value
-  horner_start r many e =
-      e ∙ ap (λ (y : ℕ). sum (get_or cs (length cs - 2) 0) y) (sym (ap (product x) last ∙ whole (get_or cs (length cs - 2 + 1) 0)))
-      ∙ sym (ap (λ (l : List ℕ). value l x) (drop-cons cs (length cs - 2) 0 (omega arith)))
-    where
-      last : value (drop (suc (length cs - 2)) cs) x ≡ sum (get_or cs (length cs - 2 + 1) 0) (product x 0)
-      last =
-          ap (λ (k : ℕ). value (drop k cs) x) (sym (add-one (length cs - 2)))
-          ∙ ap (λ (l : List ℕ). value l x)
-          (drop-cons cs (length cs - 2 + 1) 0 (omega arith) ∙ ap (λ (l : List ℕ). get_or cs (length cs - 2 + 1) 0 ∷ l) none)
-        where
-          none : drop (suc (length cs - 2 + 1)) cs ≡ []
-          none = ap (λ (k : ℕ). drop k cs) (let end : suc (length cs - 2 + 1) ≡ length cs = omega arith in end) ∙ drop-length cs
+pub horner_one : (cs : List ℕ) (x : ℕ) → length cs ≡ 1 → sum (get_or cs 0 0) (product x 0) ≡ value cs x
+unfolding value
+horner_one [] x e = absurd (omega arith)
+horner_one (c ∷ []) x e = refl
+horner_one (c ∷ d ∷ cs) x e = absurd (omega (arith, e))
 
-  pub horner_turn : (i r v : ℕ) → 0 < i → i ≤ length cs → r ≡ value (drop i cs) x → v ≡ sum (get_or cs (i - 1) 0) (product x r)
-      → v ≡ value (drop (i - 1) cs) x
-  unfolding value
-  horner_turn i r v h k e g =
-      let q : i ≡ suc (i - 1) = omega arith in
-      g ∙ ap (λ (y : ℕ). sum (get_or cs (i - 1) 0) (product x y)) (e ∙ ap (λ (j : ℕ). value (drop j cs) x) q)
-      ∙ sym (ap (λ (l : List ℕ). value l x) (drop-cons cs (i - 1) 0 (omega arith)))
+-- the last two coefficients begin
+pub horner_folded : (cs : List ℕ) (x first v : ℕ) → 2 ≤ length cs
+    → first ≡ sum (get_or cs (length cs - 2) 0) (product x (get_or cs (length cs - 1) 0))
+    → v ≡ fold (λ v c. sum c (product x v)) first (reverse (take (length cs - 2) cs)) → v ≡ value cs x
+unfolding value
+horner_folded cs x first v many e g =
+    g ∙ horner (take (length cs - 2) cs) (drop (length cs - 2) cs) x first (e ∙ start)
+    ∙ ap (λ (l : List ℕ). value l x) (take-append-drop (length cs - 2) cs)
+  where
+    last : drop (suc (length cs - 2)) cs ≡ get_or cs (length cs - 1) 0 ∷ []
+    last =
+        let q : suc (length cs - 2) ≡ length cs - 1 = omega arith in
+        let e : suc (length cs - 1) ≡ length cs = omega arith in
+        ap (λ (k : ℕ). drop k cs) q ∙ drop-cons cs (length cs - 1) 0 (omega arith)
+        ∙ ap (λ (k : ℕ). get_or cs (length cs - 1) 0 ∷ drop k cs) e ∙ ap (λ (l : List ℕ). get_or cs (length cs - 1) 0 ∷ l) (drop-length cs)
 
-  pub horner_end : (i r : ℕ) → i ≤ 0 → r ≡ value (drop i cs) x → r ≡ value cs x
-  horner_end i r h e = let z : i ≡ 0 = omega arith in e ∙ ap (λ (j : ℕ). value (drop j cs) x) z
+    start : sum (get_or cs (length cs - 2) 0) (product x (get_or cs (length cs - 1) 0)) ≡ value (drop (length cs - 2) cs) x
+    start =
+        ap (λ (y : ℕ). sum (get_or cs (length cs - 2) 0) y)
+        (sym (whole x (get_or cs (length cs - 1) 0)) ∙ ap (λ (l : List ℕ). product x (value l x)) (sym last))
+        ∙ ap (λ (l : List ℕ). value l x) (sym (drop-cons cs (length cs - 2) 0 (omega arith)))
 
 -- the list of powers, from the front: the powers to come complete it
 module _ (x : ℕ) where

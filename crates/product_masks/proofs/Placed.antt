@@ -8,7 +8,7 @@ use lib.Seq.{get_or-take, get_or-append-add, length-take-le}
 use Rattle.field.specs.Arithmetic.{sum, product}
 use Rattle.field.specs.Modulus.{p}
 use Rattle.session.specs.declared.Session.{Session}
-use Rattle.session.specs.Rows.{width, row_at, combined}
+use Rattle.session.specs.Rows.{width, row_at}
 use Rattle.session.proofs.RowLaws.{length_row}
 use Rattle.session.proofs.Placed.{places}
 use Rattle.product_masks.specs.Masks.{less, mask_numbers_of}

@@ -7,90 +7,83 @@
 ghost use Rattle.std.specs.Prelude.{◌≡◌, ◌≤◌, length};
 ghost use Rattle.shape.specs.Bounds.{last_triple};
 ghost use Rattle.shape.specs.Lengths.{Valid, v_length, row_length, masks_length};
+ghost use Rattle.shape.specs.Marks.{mark_number};
 ghost use Rattle.shape.specs.Row.{coefficients};
 ghost use Rattle.refusal.specs.Refusal.{first};
+ghost use Rattle.refusal.specs.Numbers.{refused};
 ghost use Rattle.session.specs.Sessions.{shape_of};
 ghost use Rattle.session.specs.Between.{Sized, RowIn, TripleIn};
 ghost use Rattle.product_masks.specs.Masks.{mask_row, masks_place_of, triple_marks_of, factor_numbers_of, masks_refusal_of, masks_answer, both_masks, masks_out_of};
 
+use refusal::Refusal;
 use session::{Answer, Session};
-use shape::Shape;
+use shape::{Mark, Shape};
 
 // 7, of the factor rows a and b and of the triple at `row`, whose first row needs this mark.
-pub fn triple_marks(session: Session, a: usize, b: usize, row: usize, mark: u8) -> u8
+pub fn triple_marks(
+    session: Session,
+    a: usize,
+    b: usize,
+    row: usize,
+    mark: Mark,
+) -> Result<(), Refusal>
     requires { row ≤ last_triple }
-    ensures { result ≡ first (triple_marks_of session a b row mark) }
+    ensures { refused result ≡ first (triple_marks_of session a b row (mark_number mark)) }
 {
     let all_marks = session.marks;
-    let triple = session::checks::wrong_marks(
-        &all_marks,
-        row,
-        mark,
-        shape::FURTHER,
-        shape::FURTHER,
-    );
-    refusal::or_else(
-        session::checks::wrong_mark(&all_marks, a, shape::HELD),
-        refusal::or_else(
-            session::checks::wrong_mark(&all_marks, b, shape::HELD),
-            triple,
-        ),
-    )
+    session::checks::wrong_mark(&all_marks, a, Mark::Held)?;
+    session::checks::wrong_mark(&all_marks, b, Mark::Held)?;
+    session::checks::wrong_marks(&all_marks, row, mark, Mark::Further, Mark::Further)
 }
 
 // 8, of the factor rows and of the first two rows of the triple at `row`.
-pub fn factor_numbers(shape: Shape, rows: &[u32], a: usize, b: usize, row: usize) -> u8
+pub fn factor_numbers(
+    shape: Shape,
+    rows: &[u32],
+    a: usize,
+    b: usize,
+    row: usize,
+) -> Result<(), Refusal>
     requires { Sized shape rows.now × (row ≤ last_triple) }
-    ensures { result ≡ first (factor_numbers_of (row_length shape) rows.now a b row) }
+    ensures { refused result ≡ first (factor_numbers_of (row_length shape) rows.now a b row) }
 {
-    let triple = refusal::or_else(
-        session::checks::numbers(shape, rows, row),
-        session::checks::numbers(shape, rows, row + 1),
-    );
-    refusal::or_else(
-        session::checks::numbers(shape, rows, a),
-        refusal::or_else(session::checks::numbers(shape, rows, b), triple),
-    )
+    session::checks::numbers(shape, rows, a)?;
+    session::checks::numbers(shape, rows, b)?;
+    session::checks::numbers(shape, rows, row)?;
+    session::checks::numbers(shape, rows, row + 1)
 }
 
 // 5 of the lent list, and 6.
-fn masks_place(session: Session, a: usize, b: usize, row: usize, out: &[u32]) -> u8
+fn masks_place(session: Session, a: usize, b: usize, row: usize, out: &[u32]) -> Result<(), Refusal>
     requires { Valid (shape_of session) }
-    ensures { result ≡ first (masks_place_of session a b row out.now) }
+    ensures { refused result ≡ first (masks_place_of session a b row out.now) }
 {
     let shape = session.shape();
-    let places = refusal::or_else(session::checks::row(b), session::checks::triple(row));
-    refusal::or_else(
-        refusal::size(out, shape.masks_len()),
-        refusal::or_else(session::checks::row(a), places),
-    )
+    refusal::size(out, shape.masks_len())?;
+    session::checks::row(a)?;
+    session::checks::row(b)?;
+    session::checks::triple(row)
 }
 
-fn masks_refusal(
+#[tactic(auto, using(crate::proofs::Masking::masks_stopped, crate::proofs::Masking::masks_valid, crate::proofs::Masking::masks_misplaced, crate::proofs::Masking::masks_placed, crate::proofs::Masking::masks_unmarked, crate::proofs::Masking::masks_checked, session::proofs::Calls::shape_sized, refusal::proofs::Checks::not_zero))]
+fn masks_checks(
     session: Session,
     rows: &[u32],
     a: usize,
     b: usize,
     first: usize,
     out: &[u32],
-) -> u8
-    ensures { result ≡ masks_refusal_of session rows.now a b first out.now }
+) -> Result<(), Refusal>
+    ensures { refused result ≡ masks_refusal_of session rows.now a b first out.now }
 {
-    let frame = session.frame(rows);
-    if frame != 0 {
-        return frame;
-    }
-    let place = masks_place(session, a, b, first, out);
-    if place != 0 {
-        return place;
-    }
-    refusal::or_else(
-        triple_marks(session, a, b, first, shape::UNUSED),
-        factor_numbers(session.shape(), rows, a, b, first),
-    )
+    session.frame(rows)?;
+    masks_place(session, a, b, first, out)?;
+    triple_marks(session, a, b, first, Mark::Unused)?;
+    factor_numbers(session.shape(), rows, a, b, first)
 }
 
 // One mask: the coefficients of a factor row less a row of the triple.
+#[tactic(auto, using(crate::proofs::Differences::mask_front))]
 fn mask(shape: Shape, rows: &[u32], factor: usize, row: usize, out: &mut [u32])
     requires { Sized shape rows.now × RowIn shape factor × RowIn shape row × (length out.old ≡ v_length shape) }
     ensures { out.new ≡ coefficients shape (mask_row shape rows.now factor row) }
@@ -110,7 +103,8 @@ pub fn masks_accepted(shape: Shape, rows: &[u32], a: usize, b: usize, first: usi
     mask(shape, rows, b, first + 1, &mut out[count..]);
 }
 
-// The lent list, after a call with this refusal.
+// The lent list, after a call whose checks found this.
+#[tactic(auto, using(crate::proofs::Masking::masks_written, crate::proofs::Masking::masks_untouched, refusal::proofs::Checks::ok_zero, refusal::proofs::Checks::err_not_zero))]
 fn masks_out(
     session: Session,
     rows: &[u32],
@@ -118,17 +112,17 @@ fn masks_out(
     b: usize,
     first: usize,
     out: &mut [u32],
-    refusal: u8,
+    checked: Result<(), Refusal>,
 )
-    requires { refusal ≡ masks_refusal_of session rows.now a b first out.old }
+    requires { refused checked ≡ masks_refusal_of session rows.now a b first out.old }
     ensures { out.new ≡ masks_out_of session rows.now a b first out.old }
 {
-    if refusal != 0 {
-        return;
+    if checked.is_ok() {
+        masks_accepted(session.shape(), rows, a, b, first, out);
     }
-    masks_accepted(session.shape(), rows, a, b, first, out);
 }
 
+#[tactic(auto, using(crate::proofs::Masking::masks_first, crate::proofs::Masking::masks_a_is, crate::proofs::Masking::masks_b_is))]
 pub fn masks(
     session: Session,
     rows: &[u32],
@@ -140,7 +134,7 @@ pub fn masks(
     ensures value { result ≡ masks_answer session rows.now a b first out.old }
     ensures out_after { out.new ≡ masks_out_of session rows.now a b first out.old }
 {
-    let refusal = masks_refusal(session, rows, a, b, first, out);
-    masks_out(session, rows, a, b, first, out, refusal);
-    session.answer_masking(refusal, first, a, b)
+    let checked = masks_checks(session, rows, a, b, first, out);
+    masks_out(session, rows, a, b, first, out, checked);
+    session.answer_masking(checked, first, a, b)
 }

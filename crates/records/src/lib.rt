@@ -3,47 +3,49 @@
 
 ghost use Rattle.std.specs.Prelude.{◌≡◌, suc, length};
 ghost use Rattle.shape.specs.Lengths.{Valid, record_length, message_length};
+ghost use Rattle.refusal.specs.Numbers.{refused};
 ghost use Rattle.blocks.specs.Between.{PostIn};
 ghost use Rattle.records.specs.Records.{place_refusal_of, put_refusal_of, with_block, block_of, no_block, put_record, removed_record};
 
+use refusal::Refusal;
 use shape::Shape;
 
 // 1 to 4, and 5 of the record.
-fn place_refusal(n: usize, t: usize, points: usize, blocks: &[u32], post: usize) -> u8
-    ensures { result ≡ place_refusal_of n t points blocks.now post }
-{
-    let party = refusal::party(n, t, post, points);
-    if party != 0 {
-        return party;
-    }
-    let shape = Shape { n, t, points };
-    refusal::size(blocks, shape.record_len())
-}
-
-// And 5 and 8 of the message.
-fn put_refusal(
+#[tactic(auto, using(refusal::proofs::Ranges::party_passed, crate::proofs::Places::place_stopped, crate::proofs::Places::place_sized, refusal::proofs::Checks::not_zero))]
+fn place_checks(
     n: usize,
     t: usize,
     points: usize,
     blocks: &[u32],
     post: usize,
-    message: &[u32],
-) -> u8
-    ensures { result ≡ put_refusal_of n t points blocks.now post message.now }
+) -> Result<(), Refusal>
+    ensures { refused result ≡ place_refusal_of n t points blocks.now post }
 {
-    let place = place_refusal(n, t, points, blocks, post);
-    if place != 0 {
-        return place;
-    }
+    refusal::party(n, t, post, points)?;
     let shape = Shape { n, t, points };
-    let size = refusal::size(message, shape.v_len());
-    if size != 0 {
-        return size;
-    }
+    refusal::size(blocks, shape.record_len())
+}
+
+// And 5 and 8 of the message.
+#[tactic(auto, using(crate::proofs::Places::place_valid, crate::proofs::Places::put_stopped, crate::proofs::Places::size_stopped, crate::proofs::Places::numbers_asked, refusal::proofs::Checks::not_zero))]
+fn put_checks(
+    n: usize,
+    t: usize,
+    points: usize,
+    all_blocks: &[u32],
+    post: usize,
+    message: &[u32],
+) -> Result<(), Refusal>
+    ensures { refused result ≡ put_refusal_of n t points all_blocks.now post message.now }
+{
+    place_checks(n, t, points, all_blocks, post)?;
+    let shape = Shape { n, t, points };
+    refusal::size(message, shape.v_len())?;
     refusal::numbers(message)
 }
 
 // A present block with a message.
+#[tactic(auto, using(crate::proofs::Written::behind_mark, crate::proofs::Written::message_fits, crate::proofs::Written::filled, crate::proofs::Written::filled_same))]
 fn fill(block: &mut [u32], message: &[u32])
     requires { length block.old ≡ suc (length message.now) }
     ensures { block.new ≡ block_of message.now }
@@ -53,6 +55,7 @@ fn fill(block: &mut [u32], message: &[u32])
 }
 
 // A message into the block of a post, for callers that have made the tests.
+#[tactic(auto, using(crate::proofs::Written::block_put))]
 pub fn put_block(shape: Shape, blocks: &mut [u32], post: usize, message: &[u32])
     requires { Valid shape × PostIn shape post × (length blocks.old ≡ record_length shape) × (length message.now ≡ message_length shape) }
     ensures { blocks.new ≡ with_block shape post (block_of message.now) blocks.old }
@@ -62,6 +65,7 @@ pub fn put_block(shape: Shape, blocks: &mut [u32], post: usize, message: &[u32])
     fill(&mut blocks[from..end], message);
 }
 
+#[tactic(auto, using(crate::proofs::Written::block_cleared))]
 fn remove_block(shape: Shape, blocks: &mut [u32], post: usize)
     requires { Valid shape × PostIn shape post × (length blocks.old ≡ record_length shape) }
     ensures { blocks.new ≡ with_block shape post (no_block shape) blocks.old }
@@ -72,6 +76,7 @@ fn remove_block(shape: Shape, blocks: &mut [u32], post: usize)
 }
 
 // A post's message, into its block of the record.
+#[tactic(auto, using(refusal::proofs::Endings::refused, crate::proofs::Places::put_valid, crate::proofs::Places::put_in, crate::proofs::Places::put_long_is, crate::proofs::Places::message_long, crate::proofs::Places::was_put, refusal::proofs::Checks::not_zero))]
 pub fn put(
     n: usize,
     t: usize,
@@ -79,27 +84,28 @@ pub fn put(
     blocks: &mut [u32],
     post: usize,
     message: &[u32],
-) -> u8
-    ensures value { result ≡ put_refusal_of n t points blocks.old post message.now }
+) -> Result<(), Refusal>
+    ensures value { refused result ≡ put_refusal_of n t points blocks.old post message.now }
     ensures blocks_after { blocks.new ≡ put_record n t points blocks.old post message.now }
 {
-    let refusal = put_refusal(n, t, points, blocks, post, message);
-    if refusal != 0 {
-        return refusal;
-    }
+    put_checks(n, t, points, blocks, post, message)?;
     put_block(Shape { n, t, points }, blocks, post, message);
-    0
+    Ok(())
 }
 
 // A post's block is absent, with zeros for its coefficients.
-pub fn remove(n: usize, t: usize, points: usize, blocks: &mut [u32], post: usize) -> u8
-    ensures value { result ≡ place_refusal_of n t points blocks.old post }
+#[tactic(auto, using(refusal::proofs::Endings::refused, crate::proofs::Places::place_valid, crate::proofs::Places::place_in, crate::proofs::Places::place_long, crate::proofs::Places::removed, refusal::proofs::Checks::not_zero))]
+pub fn remove(
+    n: usize,
+    t: usize,
+    points: usize,
+    blocks: &mut [u32],
+    post: usize,
+) -> Result<(), Refusal>
+    ensures value { refused result ≡ place_refusal_of n t points blocks.old post }
     ensures blocks_after { blocks.new ≡ removed_record n t points blocks.old post }
 {
-    let refusal = place_refusal(n, t, points, blocks, post);
-    if refusal != 0 {
-        return refusal;
-    }
+    place_checks(n, t, points, blocks, post)?;
     remove_block(Shape { n, t, points }, blocks, post);
-    0
+    Ok(())
 }

@@ -1,42 +1,44 @@
 -- The search for a number that is no element: its turns, and what it says where it finds none.
-use Prim.Native.Nat.{ℕ, zero, suc, ◌+◌, ◌≤◌, ◌<◌}
+use Prim.Native.Nat.{ℕ, ◌+◌, ◌≤◌, ◌<◌}
 use mathlib.Core.Path.{◌≡◌, refl, sym, ◌∙◌, ap}
+use mathlib.Core.Logic.{inl, inr}
 use mathlib.Core.Bool.{Bool, true, false, not, ◌||◌}
-use mathlib.Core.List.{List, [], ◌∷◌}
-use native.Mathlib.Omega.{arith}
+use mathlib.Core.List.{List}
 use native.Mathlib.Numerals.{add-one}
-use borrow.Author.Tests.{lt-ltb, ltb-true, not-false}
-use lib.Dec.{ltb}
+use borrow.Author.Tests.{lt-ltb, le-ltb, ltb-true, not-false}
+use lib.Dec.{leb, ltb}
+use Rattle.std.proofs.lemmas.Bool.Decides.{leb_tells}
 use lib.ListN.{length, drop, get_or, drop_of_length-le}
 use lib.Seq.{drop-cons}
 use Rattle.field.specs.Modulus.{p}
-use Rattle.refusal.specs.Refusal.{◌when◌, first, or_else}
 use Rattle.refusal.specs.Conditions.{beyond, any_beyond}
 
 -- what was found so far, or else is in the rest of the list, is what is in the whole
-abbrev pub SoFar : List ℕ → ℕ → ℕ → Type 0
-SoFar l r i = or_else r (first (8 when any_beyond (drop i l) ∷ [])) ≡ first (8 when any_beyond l ∷ [])
+abbrev pub SoFar : List ℕ → Bool → ℕ → Type 0
+SoFar l r i = (r || any_beyond (drop i l)) ≡ any_beyond l
 
-once : (r : ℕ) (b : Bool) → or_else r 8 ≡ first (8 when b ∷ []) → 8 ≡ first (8 when b ∷ [])
-once r true e = refl
-once zero false e = e
-once (suc r) false e = let q : suc r ≡ 0 = e in absurd (omega arith)
+or_assoc : (a b c : Bool) → ((a || b) || c) ≡ (a || (b || c))
+or_assoc true b c = refl
+or_assoc false b c = refl
 
-alone : (r : ℕ) → or_else r 0 ≡ r
-alone zero = refl
-alone (suc r) = refl
+alone : (r : Bool) → (r || false) ≡ r
+alone true = refl
+alone false = refl
 
-module _ (l : List ℕ) (r i : ℕ) where
-  pub turned : (v : ℕ) → i < length l → v ≡ or_else (first (8 when beyond (get_or l i 0) ∷ [])) r → SoFar l r i → SoFar l v (i + 1)
+-- as the code asks: p is at most x
+at_least : (x : ℕ) → leb p x ≡ beyond x
+at_least x = elim (leb_tells p x) [ inl h ↦ h.0 ∙ sym (ap not (le-ltb x p h.1)) | inr h ↦ h.0 ∙ sym (ap not (lt-ltb x p h.1)) ]
+
+module _ (l : List ℕ) (r : Bool) (i : ℕ) where
+  pub turned : i < length l → SoFar l r i → SoFar l (r || leb p (get_or l i 0)) (i + 1)
   unfolding any_beyond
-  turned v h ev e = go (beyond (get_or l i 0)) ev (rw (drop-cons l i 0 h) at e)
-    where
-      go : (b : Bool) → v ≡ or_else (first (8 when b ∷ [])) r
-          → or_else r (first (8 when (b || any_beyond (drop (suc i) l)) ∷ [])) ≡ first (8 when any_beyond l ∷ []) → SoFar l v (i + 1)
-      go true ev e = rw ev (once r (any_beyond l) e)
-      go false ev e = rw (ev, add-one i) e
+  turned h e =
+      ap (λ (b : Bool). (r || b) || any_beyond (drop (i + 1) l)) (at_least (get_or l i 0))
+      ∙ or_assoc r (beyond (get_or l i 0)) (any_beyond (drop (i + 1) l))
+      ∙ ap (λ (k : ℕ). r || (beyond (get_or l i 0) || any_beyond (drop k l))) (add-one i)
+      ∙ rw (drop-cons l i 0 h) at e
 
-  pub ended : length l ≤ i → SoFar l r i → r ≡ first (8 when any_beyond l ∷ [])
+  pub ended : length l ≤ i → SoFar l r i → r ≡ any_beyond l
   unfolding any_beyond
   ended h e = sym (alone r) ∙ rw (drop_of_length-le l h) at e
 

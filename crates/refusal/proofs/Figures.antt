@@ -10,7 +10,7 @@ use lib.Dec.{eqb, ltb}
 use lib.ListN.{length, get_or}
 use Rattle.field.specs.Modulus.{p}
 use Rattle.shape.specs.declared.Points.{Points}
-use Rattle.refusal.specs.Conditions.{outside, wrong_length, beyond, any_beyond, bad_point, bad_point_count, bad_points}
+use Rattle.refusal.specs.Conditions.{outside, beyond, any_beyond, bad_point, bad_point_count, bad_points}
 use Rattle.refusal.specs.Claims.{ConditionsMean}
 use Rattle.refusal.proofs.Laws.{or_false, inside, equal}
 use Rattle.refusal.proofs.Elements.{below_p, element_test}

@@ -1,3 +1,4 @@
 pub mod Refusal
+pub mod Numbers
 pub mod Conditions
 pub mod Claims

@@ -6,42 +6,35 @@ use mathlib.Core.Logic.{◌≢◌}
 use mathlib.Core.List.{List, [], ◌∷◌}
 use borrow.Author.Tests.{eqb-false}
 use lib.Dec.{eqb}
-use lib.ListN.{length, take, drop, get_or}
+use lib.ListN.{length, drop, get_or, drop_of_length-le}
 use Rattle.poly.specs.Counting.{All}
 use Rattle.refusal.specs.Refusal.{◌when◌, first}
 use Rattle.refusal.proofs.Laws.{or_false}
 use Rattle.terms.specs.declared.Term.{Term}
 use Rattle.terms.specs.Listed.{blank}
 use Rattle.relation.specs.Tests.{named_in, named_twice_of}
-use Rattle.relation.proofs.Loops.{at_place, past_end}
+use Rattle.relation.proofs.Loops.{at_place}
 
-module _ (l : List Term) (n i : ℕ) where
-  abbrev rest : List Term
-  rest = drop i (take n l)
-
-  abbrev next : List Term
-  next = drop (i + 1) (take n l)
-
-  module _ (all : Bool) (e : named_twice_of (drop i (take n l)) ≡ all) where
-    module _ (h : i < n) (m : n ≤ length l) (b : Bool) (eb : b ≡ named_in (get_or l i blank).first (drop (i + 1) (take n l))) where
-      pub twice_here : b ≡ true → 7 ≡ first (7 when all ∷ [])
-      unfolding named_twice_of
-      twice_here q =
-          let k : named_in (get_or l i blank).first (drop (i + 1) (take n l)) ≡ true = sym eb ∙ q in
-          let f : true ≡ all = rw (at_place l n i h m, k) at e in
-          rw (← f) refl
-
-      pub twice_on : b ≡ false → named_twice_of (drop (i + 1) (take n l)) ≡ all
-      unfolding named_twice_of
-      twice_on q =
-          let k : named_in (get_or l i blank).first (drop (i + 1) (take n l)) ≡ false = sym eb ∙ q in
-          rw (at_place l n i h m, k) at e
-
-    pub twice_out : n ≤ i → 0 ≡ first (7 when all ∷ [])
+module _ (l : List Term) (i : ℕ) (all : Bool) (e : named_twice_of (drop i l) ≡ all) where
+  module _ (h : i < length l) (b : Bool) (eb : b ≡ named_in (get_or l i blank).first (drop (i + 1) l)) where
+    pub twice_here : b ≡ true → 7 ≡ first (7 when all ∷ [])
     unfolding named_twice_of
-    twice_out h =
-        let f : false ≡ all = rw (past_end l n i h) at e in
+    twice_here q =
+        let k : named_in (get_or l i blank).first (drop (i + 1) l) ≡ true = sym eb ∙ q in
+        let f : true ≡ all = rw (at_place l i h, k) at e in
         rw (← f) refl
+
+    pub twice_on : b ≡ false → named_twice_of (drop (i + 1) l) ≡ all
+    unfolding named_twice_of
+    twice_on q =
+        let k : named_in (get_or l i blank).first (drop (i + 1) l) ≡ false = sym eb ∙ q in
+        rw (at_place l i h, k) at e
+
+  pub twice_out : length l ≤ i → 0 ≡ first (7 when all ∷ [])
+  unfolding named_twice_of
+  twice_out h =
+      let f : false ≡ all = rw (drop_of_length-le l h) at e in
+      rw (← f) refl
 
 -- no triple is that of a term behind
 named_apart : (r : ℕ) (ts : List Term) → named_in r ts ≡ false → All (λ t. t.first ≢ r) ts

@@ -1,70 +1,76 @@
 // The checks that a relation's two calls share. Each loop asks one number's tests of all terms.
-ghost use Rattle.std.specs.Prelude.{◌≡◌, [], ◌∷◌, ◌*◌, ◌<◌, ◌≤◌, drop};
+ghost use Rattle.std.specs.Prelude.{◌≡◌, [], ◌∷◌, ◌*◌, ◌<◌, ◌≤◌};
 ghost use Rattle.refusal.specs.Refusal.{first, ◌when◌};
+ghost use Rattle.refusal.specs.Numbers.{refused};
 ghost use Rattle.refusal.specs.Conditions.{wrong_length};
+ghost use Rattle.shape.specs.Marks.{mark_number};
 ghost use Rattle.session.specs.Sessions.{shape_of};
 ghost use Rattle.terms.specs.Listed.{terms_of, factors_of};
 ghost use Rattle.relation.specs.Tests.{each, bad_count, place_tests, mark_tests, named_in, named_twice_of, Few, Every, Placed};
 
+use refusal::Refusal;
 use session::Session;
+use shape::Mark;
 use terms::{Term, Terms};
 
 // 5: a list that isn't `count` times `size` numbers long; no count is too large.
-pub fn size(list: &[u32], count: usize, size: usize) -> u8
+#[tactic(auto, using(crate::proofs::Sizes::other_count, crate::proofs::Sizes::parts_fit, crate::proofs::Sizes::same_count))]
+pub fn size(list: &[u32], count: usize, size: usize) -> Result<(), Refusal>
     requires { 0 < size }
-    ensures { result ≡ first (5 when wrong_length list.now (count * size) ∷ []) }
+    ensures { refused result ≡ first (5 when wrong_length list.now (count * size) ∷ []) }
 {
     let parts = list.len() / size;
     if parts != count {
-        return 5;
+        return Err(Refusal::BadLength);
     }
     refusal::size(list, parts * size)
 }
 
 // 14: no terms, or too many.
-pub fn count(count: usize) -> u8
-    ensures { result ≡ first (14 when bad_count count ∷ []) }
+pub fn count(count: usize) -> Result<(), Refusal>
+    ensures { refused result ≡ first (14 when bad_count count ∷ []) }
 {
-    if count < 1 {
-        return 14;
+    if count < 1 || terms::MOST_TERMS < count {
+        return Err(Refusal::BadTermCount);
     }
-    if terms::MOST_TERMS < count { 14 } else { 0 }
+    Ok(())
 }
 
 // 6, of one term.
-fn place(term: Term) -> u8
-    ensures { result ≡ first (place_tests term) }
+#[tactic(auto, using(crate::proofs::Sorts::place_stopped, crate::proofs::Sorts::place_plain, crate::proofs::Sorts::place_second, crate::proofs::Sorts::place_product, refusal::proofs::Checks::not_zero))]
+fn place(term: Term) -> Result<(), Refusal>
+    ensures { refused result ≡ first (place_tests term) }
 {
-    let row = session::checks::row(term.row as usize);
+    session::checks::row(term.row as usize)?;
     if term.plain() {
-        return row;
+        return Ok(());
     }
-    let second = session::checks::row(term.second as usize);
-    let triple = session::checks::triple(term.first as usize);
-    refusal::or_else(row, refusal::or_else(second, triple))
+    session::checks::row(term.second as usize)?;
+    session::checks::triple(term.first as usize)
 }
 
 // 6, of every term.
-pub fn places(all: Terms) -> u8
+#[tactic(auto, using(crate::proofs::Loops::stops, crate::proofs::Loops::goes_on, crate::proofs::Loops::ends, crate::proofs::Sorts::place_numbered, refusal::proofs::Checks::not_zero))]
+pub fn places(all: Terms) -> Result<(), Refusal>
     requires { Few all }
-    ensures { result ≡ first (each place_tests (terms_of all)) }
+    ensures { refused result ≡ first (each place_tests (terms_of all)) }
 {
-    let mut refusal: u8 = 0;
-    for i in 0..all.count {
-        refusal = refusal::or_else(refusal, place(all.list[i]));
+    for &term in &all.list[..all.count] {
+        place(term)?;
     }
-    refusal
+    Ok(())
 }
 
 // 7, of one term; its triple's first row needs this mark.
-fn mark(session: Session, term: Term, mark: u8) -> u8
+#[tactic(auto, using(crate::proofs::Sorts::mark_plain, crate::proofs::Sorts::mark_first, crate::proofs::Sorts::mark_product))]
+fn mark(session: Session, term: Term, mark: Mark) -> Result<(), Refusal>
     requires { Placed (shape_of session) term }
-    ensures { result ≡ first (mark_tests session mark term) }
+    ensures { refused result ≡ first (mark_tests session (mark_number mark) term) }
 {
     let row = term.row as usize;
     if term.plain() {
         let all_marks = session.marks;
-        return session::checks::wrong_mark(&all_marks, row, shape::HELD);
+        return session::checks::wrong_mark(&all_marks, row, Mark::Held);
     }
     product_masks::triple_marks(
         session,
@@ -76,45 +82,35 @@ fn mark(session: Session, term: Term, mark: u8) -> u8
 }
 
 // 7, of every term.
-pub fn marks(session: Session, all: Terms, need: u8) -> u8
+#[tactic(auto, using(crate::proofs::Loops::stops, crate::proofs::Loops::goes_on, crate::proofs::Loops::ends, crate::proofs::Loops::every_at, crate::proofs::Sorts::mark_numbered, refusal::proofs::Checks::not_zero))]
+pub fn marks(session: Session, all: Terms, need: Mark) -> Result<(), Refusal>
     requires { Few all × Every (Placed (shape_of session)) (terms_of all) }
-    ensures { result ≡ first (each (mark_tests session need) (terms_of all)) }
+    ensures { refused result ≡ first (each (mark_tests session (mark_number need)) (terms_of all)) }
 {
-    let mut refusal: u8 = 0;
-    for i in 0..all.count {
-        refusal = refusal::or_else(refusal, mark(session, all.list[i], need));
+    for &term in &all.list[..all.count] {
+        mark(session, term, need)?;
     }
-    refusal
+    Ok(())
 }
 
-// Whether a product term from the place `from` on names the triple at `row`.
-fn named_in(all: Terms, row: u8, from: usize) -> bool
-    requires { Few all }
-    ensures { result ≡ named_in row (drop from (factors_of all)) }
+// Whether one of these product terms names the triple at `row`.
+fn named_in(factors: &[Term], row: u8) -> bool
+    ensures { result ≡ named_in row factors.now }
 {
-    let mut i = from;
-    while i < all.products {
-        let term = all.factors[i];
-        if term.first == row {
-            return true;
-        }
-        i += 1;
-    }
-    false
+    factors.iter().any(|term| term.first == row)
 }
 
 // 7: a triple named twice.
-pub fn named_twice(all: Terms) -> u8
+#[tactic(auto, using(crate::proofs::Naming::twice_here, crate::proofs::Naming::twice_on, crate::proofs::Naming::twice_out))]
+pub fn named_twice(all: Terms) -> Result<(), Refusal>
     requires { Few all }
-    ensures { result ≡ first (7 when named_twice_of (factors_of all) ∷ []) }
+    ensures { refused result ≡ first (7 when named_twice_of (factors_of all) ∷ []) }
 {
-    let mut i = 0;
-    while i < all.products {
-        let term = all.factors[i];
-        i += 1;
-        if named_in(all, term.first, i) {
-            return 7;
+    let factors = &all.factors[..all.products];
+    for (i, term) in factors.iter().enumerate() {
+        if named_in(&factors[i + 1..], term.first) {
+            return Err(Refusal::WrongMark);
         }
     }
-    0
+    Ok(())
 }

@@ -1,21 +1,19 @@
 -- One term's tests at the finish, as the code asks them.
 use Prim.Native.Nat.{ℕ, ◌+◌, ◌≤◌}
 use mathlib.Core.Path.{◌≡◌, refl, sym, ◌∙◌}
-use mathlib.Core.Bool.{Bool, true, false, not}
+use mathlib.Core.Bool.{Bool, true, false}
 use mathlib.Core.List.{List, [], ◌∷◌, ◌++◌}
-use lib.Dec.{eqb}
 use borrow.Author.Tests.{eq-eqb, ne_eqb}
-use native.Mathlib.Omega.{arith}
 use Rattle.shape.specs.declared.Shape.{Shape}
 use Rattle.shape.specs.Bounds.{last_triple}
 use Rattle.shape.specs.Lengths.{row_length}
-use Rattle.refusal.specs.Refusal.{Test, ◌when◌, first, or_else}
+use Rattle.refusal.specs.Refusal.{Test, ◌when◌, first}
 use Rattle.refusal.specs.Conditions.{beyond, any_beyond}
 use Rattle.session.specs.declared.Session.{Session}
 use Rattle.session.specs.Sessions.{factor_a_of, factor_b_of}
 use Rattle.session.specs.Rows.{row_at}
 use Rattle.product_masks.specs.Masks.{factor_numbers_of}
-use Rattle.product_masks.proofs.Joining.{joined}
+use Rattle.refusal.proofs.Groups.{stopped, went_on}
 use Rattle.terms.specs.declared.Term.{Term}
 use Rattle.terms.specs.Listed.{plain}
 use Rattle.relation.specs.Tests.{by_kind, Placed}
@@ -32,22 +30,32 @@ module _ (t : Term) (b : Bool) (eb : b ≡ plain t) (g : Shape) (rows : List ℕ
   is_kind : (k : Bool) → b ≡ k → plain t ≡ k
   is_kind k e = sym eb ∙ e
 
-  pub term_plain : b ≡ true → (u v x : ℕ) → u ≡ first (8 when beyond t.coefficient ∷ []) → v ≡ first (8 when any_beyond (row_at (row_length g) rows t.row) ∷ [])
-      → x ≡ or_else u v → x ≡ first (term_number_tests (row_length g) rows t)
-  term_plain e u v x eu ev ex =
-      rw (is_kind true e) (joined (8 when beyond t.coefficient ∷ []) (8 when any_beyond (row_at w rows t.row) ∷ []) tt u v x eu ev ex)
-
   pub term_first : b ≡ false → Placed g t → t.first ≤ last_triple
   term_first e h = (h.factors_in (is_kind false e)).triple_in.triple_in
 
-  pub term_product : b ≡ false → (u v x y z : ℕ) → u ≡ first (8 when beyond t.coefficient ∷ [])
-      → v ≡ first (factor_numbers_of (row_length g) rows t.row t.second t.first)
-      → x ≡ first (8 when any_beyond (row_at (row_length g) rows (t.first + 2)) ∷ []) → y ≡ or_else v x → z ≡ or_else u y
-      → z ≡ first (term_number_tests (row_length g) rows t)
-  term_product e u v x y z eu ev ex ey ez =
-      rw (is_kind false e)
-      (joined (8 when beyond t.coefficient ∷ []) (products w rows t) tt u y z eu
-      (joined (factor_numbers_of w rows t.row t.second t.first) (8 when any_beyond (row_at w rows (t.first + 2)) ∷ []) tt v x y ev ex ey) ez)
+  -- the coefficient stops a term, or the row of a plain one decides, or the factors' numbers and the third row of a product
+  module _ (u : ℕ) (eu : u ≡ first (8 when beyond t.coefficient ∷ [])) where
+    pub term_stopped : (u ≡ 0 → ⊥) → u ≡ first (term_number_tests (row_length g) rows t)
+    term_stopped =
+        stopped (8 when beyond t.coefficient ∷ []) (by_kind (plain t) (8 when any_beyond (row_at w rows t.row) ∷ []) (products w rows t)) tt u eu
+
+    pub term_plain : u ≡ 0 → b ≡ true → (v : ℕ) → v ≡ first (8 when any_beyond (row_at (row_length g) rows t.row) ∷ [])
+        → v ≡ first (term_number_tests (row_length g) rows t)
+    term_plain z e v ev =
+        rw (is_kind true e) (went_on (8 when beyond t.coefficient ∷ []) (8 when any_beyond (row_at w rows t.row) ∷ []) tt u eu v z ev)
+
+    module _ (z : u ≡ 0) (e : b ≡ false) (v : ℕ) (ev : v ≡ first (factor_numbers_of (row_length g) rows t.row t.second t.first)) where
+      behind : (x : ℕ) → x ≡ first (products w rows t) → x ≡ first (term_number_tests (row_length g) rows t)
+      behind x ex = rw (is_kind false e) (went_on (8 when beyond t.coefficient ∷ []) (products w rows t) tt u eu x z ex)
+
+      pub term_factors : (v ≡ 0 → ⊥) → v ≡ first (term_number_tests (row_length g) rows t)
+      term_factors n =
+          behind v (stopped (factor_numbers_of w rows t.row t.second t.first) (8 when any_beyond (row_at w rows (t.first + 2)) ∷ []) tt v ev n)
+
+      pub term_third : v ≡ 0 → (x : ℕ) → x ≡ first (8 when any_beyond (row_at (row_length g) rows (t.first + 2)) ∷ [])
+          → x ≡ first (term_number_tests (row_length g) rows t)
+      term_third y x ex =
+          behind x (went_on (factor_numbers_of w rows t.row t.second t.first) (8 when any_beyond (row_at w rows (t.first + 2)) ∷ []) tt v ev x y ex)
 
 -- what a triple remembers
 module _ (s : Session) (t : Term) where

@@ -1,6 +1,6 @@
--- The refusal of a relation's finish from the groups of checks that its code joins, and what holds where there is none.
-use Prim.Native.Nat.{ℕ, zero, suc, ◌+◌, ◌*◌, ◌≤◌, ◌<◌}
-use mathlib.Core.Path.{◌≡◌, refl, sym, ◌∙◌, ap}
+-- The refusal of a relation's finish from the groups of checks that its code asks, and what holds where there is none.
+use Prim.Native.Nat.{ℕ, ◌*◌, ◌≤◌, ◌<◌}
+use mathlib.Core.Path.{◌≡◌, sym, ◌∙◌}
 use mathlib.Core.List.{List, [], ◌∷◌, ◌++◌}
 use native.Mathlib.Nat.{mul-le-mul}
 use native.Mathlib.Omega.{arith}
@@ -12,10 +12,9 @@ use Rattle.shape.specs.Marks.{empty, masked}
 use Rattle.shape.specs.Lengths as Lengths
 use Rattle.shape.specs.Lengths.{Valid, row_length, block_length}
 use Rattle.shape.proofs.Small.{each_small}
-use Rattle.refusal.specs.Refusal.{Test, ◌when◌, first, or_else}
-use Rattle.refusal.specs.Conditions.{wrong_length}
-use Rattle.refusal.proofs.Laws.{equal, all_fail}
-use Rattle.refusal.proofs.Groups.{chained, stopped, went_on, fail_parts}
+use Rattle.refusal.specs.Refusal.{Test, ◌when◌, first}
+use Rattle.refusal.proofs.Laws.{Numbered, equal, all_fail}
+use Rattle.refusal.proofs.Groups.{stopped, went_on, fail_parts}
 use Rattle.session.specs.declared.Session.{Session}
 use Rattle.session.specs.Sessions.{shape_of}
 use Rattle.session.specs.Rows.{width}
@@ -24,10 +23,9 @@ use Rattle.session.specs.Between.{Framed, RowIn}
 use Rattle.session.proofs.Passed.{row_in}
 use Rattle.session.proofs.Calls.{frame_passed, stopped_at_frame, past_frame, allowed}
 use Rattle.opening.specs.Walking.{record_length}
-use Rattle.product_masks.proofs.Joining.{joined}
 use Rattle.terms.specs.declared.Terms.{Terms}
 use Rattle.terms.specs.Listed.{terms_of, factors_of}
-use Rattle.relation.specs.Tests.{each, bad_count, place_tests, mark_tests, named_twice_of, Counted, Few, Every, Factors, Placed}
+use Rattle.relation.specs.Tests.{each, place_tests, mark_tests, named_twice_of, Counted, Few, Every, Factors, Placed}
 use Rattle.relation.specs.Finish.{finish_sizes, finish_places, remember_tests, finish_marks, term_number_tests, record_tests, finish_numbers, finish_own, relation_finish_checks}
 use Rattle.relation.proofs.Sorts.{place_numbered}
 use Rattle.relation.proofs.Numbering.{places_numbered, remembered_numbered, held_numbered, marks_numbered, terms_numbered, finish_numbered}
@@ -42,17 +40,15 @@ module _ (g : Shape) (k : ℕ) (v : Valid g) (e : k ≡ Lengths.record_length g)
       let h : 1 * 1 ≤ g.n * block_length g = mul-le-mul {n₁ = 1} {m₁ = 1} {n₂ = g.n} {m₂ = block_length g} (omega (arith, v.n_in)) (omega arith) in
       omega (arith, e, h)
 
-pub finish_sized : (s : Session) (g : Shape) (all : Terms) (blocks : List ℕ) (k u v w : ℕ) → g ≡ shape_of s → k ≡ Lengths.record_length g
-    → u ≡ first (5 when wrong_length blocks (all.products * (2 * k)) ∷ []) → v ≡ first (14 when bad_count all.count ∷ []) → w ≡ or_else u v
-    → w ≡ first (finish_sizes s all blocks)
-finish_sized s g all blocks k u v w eg ek eu ev ew =
-    let h : u ≡ first (5 when wrong_length blocks (all.products * (2 * record_length s)) ∷ []) = rw (ek, eg) at eu in
-    chained (finish_sizes s all blocks) tt w (cc)
+module _ (all : Terms) (d u : ℕ) (eu : u ≡ first (each place_tests (terms_of all))) where
+  each_placed : Numbered (each place_tests (terms_of all))
+  each_placed = each_numbered (λ k. place_tests) place_numbered 0 (terms_of all)
 
-pub places_joined : (all : Terms) (d u v w : ℕ) → u ≡ first (each place_tests (terms_of all)) → v ≡ first (6 when no_row d ∷ []) → w ≡ or_else u v
-    → w ≡ first (finish_places all d)
-places_joined all d u v w eu ev ew =
-    joined (each place_tests (terms_of all)) (6 when no_row d ∷ []) (each_numbered (λ k. place_tests) place_numbered 0 (terms_of all)) u v w eu ev ew
+  pub places_stopped : (u ≡ 0 → ⊥) → u ≡ first (finish_places all d)
+  places_stopped = stopped (each place_tests (terms_of all)) (6 when no_row d ∷ []) each_placed u eu
+
+  pub places_asked : u ≡ 0 → (v : ℕ) → v ≡ first (6 when no_row d ∷ []) → v ≡ first (finish_places all d)
+  places_asked z v ev = went_on (each place_tests (terms_of all)) (6 when no_row d ∷ []) each_placed u eu v z ev
 
 module _ (s : Session) (rows : List ℕ) (all : Terms) (d : ℕ) (blocks : List ℕ) where
   abbrev ts : List Test
@@ -61,18 +57,42 @@ module _ (s : Session) (rows : List ℕ) (all : Terms) (d : ℕ) (blocks : List 
   abbrev remember : List Test
   remember = each (remember_tests s) (factors_of all)
 
-  pub marks_joined : (u v w x y z q : ℕ) → u ≡ first (each (mark_tests s masked) (terms_of all)) → v ≡ first (7 when named_twice_of (factors_of all) ∷ [])
-      → w ≡ first (each (remember_tests s) (factors_of all)) → x ≡ first (7 when wrong_mark_of s d empty ∷ []) → y ≡ or_else w x → z ≡ or_else v y
-      → q ≡ or_else u z → q ≡ first (finish_marks s all d)
-  marks_joined u v w x y z q eu ev ew ex ey ez eq =
-      joined (each (mark_tests s masked) (terms_of all)) (7 when named_twice_of (factors_of all) ∷ (remember ++ (7 when wrong_mark_of s d empty ∷ []))) (held_numbered s rows all d blocks) u z q eu
-      (joined (7 when named_twice_of (factors_of all) ∷ []) (remember ++ (7 when wrong_mark_of s d empty ∷ [])) tt v y z ev
-      (joined remember (7 when wrong_mark_of s d empty ∷ []) (remembered_numbered s rows all d blocks) w x y ew ex ey) ez) eq
+  abbrev sum : List Test
+  sum = 7 when wrong_mark_of s d empty ∷ []
 
-  pub numbers_joined : (g : Shape) (u v w : ℕ) → g ≡ shape_of s → u ≡ first (each (term_number_tests (row_length g) rows) (terms_of all))
-      → v ≡ first (record_tests s blocks 0 all.products) → w ≡ or_else u v → w ≡ first (finish_numbers s rows all blocks)
-  numbers_joined g u v w eg eu ev ew =
-      joined (each (term_number_tests (width s) rows) (terms_of all)) (record_tests s blocks 0 all.products) (terms_numbered s rows all d blocks) u v w (rw eg at eu) ev ew
+  abbrev held_ones : List Test
+  held_ones = each (mark_tests s masked) (terms_of all)
+
+  module _ (u : ℕ) (eu : u ≡ first (each (mark_tests s masked) (terms_of all))) where
+    pub marks_stopped : (u ≡ 0 → ⊥) → u ≡ first (finish_marks s all d)
+    marks_stopped = stopped held_ones (7 when named_twice_of (factors_of all) ∷ (remember ++ sum)) (held_numbered s rows all d blocks) u eu
+
+    module _ (z : u ≡ 0) (v : ℕ) (ev : v ≡ first (7 when named_twice_of (factors_of all) ∷ [])) where
+      past_held : (x : ℕ) → x ≡ first (7 when named_twice_of (factors_of all) ∷ (remember ++ sum)) → x ≡ first (finish_marks s all d)
+      past_held x = went_on held_ones (7 when named_twice_of (factors_of all) ∷ (remember ++ sum)) (held_numbered s rows all d blocks) u eu x z
+
+      pub marks_twice : (v ≡ 0 → ⊥) → v ≡ first (finish_marks s all d)
+      marks_twice n = past_held v (stopped (7 when named_twice_of (factors_of all) ∷ []) (remember ++ sum) tt v ev n)
+
+      module _ (y : v ≡ 0) (w : ℕ) (ew : w ≡ first (each (remember_tests s) (factors_of all))) where
+        past_twice : (x : ℕ) → x ≡ first (remember ++ sum) → x ≡ first (finish_marks s all d)
+        past_twice x ex = past_held x (went_on (7 when named_twice_of (factors_of all) ∷ []) (remember ++ sum) tt v ev x y ex)
+
+        pub marks_forgot : (w ≡ 0 → ⊥) → w ≡ first (finish_marks s all d)
+        marks_forgot n = past_twice w (stopped remember sum (remembered_numbered s rows all d blocks) w ew n)
+
+        pub marks_asked : w ≡ 0 → (x : ℕ) → x ≡ first (7 when wrong_mark_of s d empty ∷ []) → x ≡ first (finish_marks s all d)
+        marks_asked k x ex = past_twice x (went_on remember sum (remembered_numbered s rows all d blocks) w ew x k ex)
+
+  module _ (g : Shape) (u : ℕ) (eg : g ≡ shape_of s) (eu : u ≡ first (each (term_number_tests (row_length g) rows) (terms_of all))) where
+    pub numbers_stopped : (u ≡ 0 → ⊥) → u ≡ first (finish_numbers s rows all blocks)
+    numbers_stopped =
+        stopped (each (term_number_tests (width s) rows) (terms_of all)) (record_tests s blocks 0 all.products) (terms_numbered s rows all d blocks) u (rw eg at eu)
+
+    pub numbers_asked : u ≡ 0 → (v : ℕ) → v ≡ first (record_tests s blocks 0 all.products) → v ≡ first (finish_numbers s rows all blocks)
+    numbers_asked z v ev =
+        went_on (each (term_number_tests (width s) rows) (terms_of all)) (record_tests s blocks 0 all.products) (terms_numbered s rows all d blocks) u
+        (rw eg at eu) v z ev
 
   abbrev late : List Test
   late = finish_marks s all d ++ finish_numbers s rows all blocks
@@ -90,11 +110,16 @@ module _ (s : Session) (rows : List ℕ) (all : Terms) (d : ℕ) (blocks : List 
       pub own_factors : (g : Shape) → Counted all → Few all → Every (Factors g) (factors_of all)
       own_factors g c f = every_factors g all c f (own_placed g)
 
-      pub own_done : (u v w : ℕ) → u ≡ first (finish_marks s all d) → v ≡ first (finish_numbers s rows all blocks) → w ≡ or_else u v
-          → w ≡ first (finish_own s rows all d blocks)
-      own_done u v w eu ev ew =
-          went_on (finish_places all d) late (places_numbered s rows all d blocks) p e w z
-          (joined (finish_marks s all d) (finish_numbers s rows all blocks) (marks_numbered s rows all d blocks) u v w eu ev ew)
+      module _ (u : ℕ) (eu : u ≡ first (finish_marks s all d)) where
+        pub own_unmarked : (u ≡ 0 → ⊥) → u ≡ first (finish_own s rows all d blocks)
+        own_unmarked n =
+            went_on (finish_places all d) late (places_numbered s rows all d blocks) p e u z
+            (stopped (finish_marks s all d) (finish_numbers s rows all blocks) (marks_numbered s rows all d blocks) u eu n)
+
+        pub own_done : u ≡ 0 → (v : ℕ) → v ≡ first (finish_numbers s rows all blocks) → v ≡ first (finish_own s rows all d blocks)
+        own_done y v ev =
+            went_on (finish_places all d) late (places_numbered s rows all d blocks) p e v z
+            (went_on (finish_marks s all d) (finish_numbers s rows all blocks) (marks_numbered s rows all d blocks) u eu v y ev)
 
   abbrev sizes : List Test
   sizes = finish_sizes s all blocks

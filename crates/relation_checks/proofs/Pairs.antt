@@ -1,7 +1,7 @@
 -- The records of a relation's finish: each product term has two of them, in its place of the lent list.
-use Prim.Native.Nat.{ℕ, zero, suc, ◌+◌, ◌*◌, ◌-◌, ◌≤◌, ◌<◌}
-use mathlib.Core.Path.{◌≡◌, refl, sym, ◌∙◌, ap}
-use mathlib.Core.List.{List, [], ◌∷◌, ◌++◌}
+use Prim.Native.Nat.{ℕ, suc, ◌+◌, ◌*◌, ◌-◌, ◌≤◌, ◌<◌}
+use mathlib.Core.Path.{◌≡◌, refl, ◌∙◌, ap}
+use mathlib.Core.List.{List, [], ◌∷◌}
 use native.Mathlib.Nat.{mul_assoc, mul_comm, add-mul, one-mul}
 use native.Mathlib.Numerals.{add-one}
 use native.Mathlib.Omega.{arith}
@@ -9,8 +9,8 @@ use lib.ListN.{length}
 use Rattle.shape.specs.declared.Shape.{Shape}
 use Rattle.shape.specs.Lengths as Lengths
 use Rattle.shape.specs.Lengths.{Valid}
-use Rattle.refusal.specs.Refusal.{◌when◌, first, or_else}
-use Rattle.refusal.proofs.Laws.{first_join}
+use Rattle.refusal.specs.Refusal.{◌when◌, first}
+use Rattle.refusal.proofs.Groups.{stopped, went_on}
 use Rattle.session.specs.declared.Party.{Party}
 use Rattle.session.specs.declared.Session.{Session}
 use Rattle.session.specs.Sessions.{shape_of, party_of}
@@ -19,9 +19,8 @@ use Rattle.session.proofs.RowLaws.{next}
 use Rattle.blocks.specs.Blocks as Blocks
 use Rattle.blocks.specs.Between.{Recorded}
 use Rattle.opening.specs.Walking.{record_length, bad_record}
-use Rattle.product_masks.proofs.Joining.{joined}
 use Rattle.terms.specs.Listed.{most_terms}
-use Rattle.relation.specs.Finish.{record_at, record_a_of, record_b_of, record_pair, record_tests}
+use Rattle.relation.specs.Finish.{record_at, record_pair, record_tests}
 use Rattle.relation_checks.specs.Steps.{Pair}
 
 -- the product term at place k of n has its records
@@ -47,37 +46,30 @@ module _ (s : Session) (g : Shape) (eg : g ≡ shape_of s) (blocks : List ℕ) (
       pub record_is : (u : ℕ) → u ≡ first (8 when Blocks.bad_record q x ∷ []) → u ≡ first (8 when bad_record s (record_at s blocks j) ∷ [])
       record_is u eu = rw (eq, ex, eg) at eu
 
-pub pair_joined : (s : Session) (blocks : List ℕ) (k u v w : ℕ) → u ≡ first (8 when bad_record s (record_at s blocks (2 * k)) ∷ [])
-    → v ≡ first (8 when bad_record s (record_at s blocks (2 * k + 1)) ∷ []) → w ≡ or_else u v → w ≡ first (record_pair s blocks k)
-pair_joined s blocks k u v w eu ev ew =
-    joined (8 when bad_record s (record_a_of s blocks k) ∷ []) (8 when bad_record s (record_b_of s blocks k) ∷ []) tt u v w eu ev ew
-
--- the turns of the loop over all records
+-- the turns of the loop over all records: those that are left decide
 module _ (s : Session) (blocks : List ℕ) (n : ℕ) where
-  abbrev pub Heard : ℕ → ℕ → Type 0
-  Heard r k = or_else r (first (record_tests s blocks k (n - k))) ≡ first (record_tests s blocks 0 n)
+  abbrev pub Heard : ℕ → Type 0
+  Heard k = first (record_tests s blocks k (n - k)) ≡ first (record_tests s blocks 0 n)
 
-  pub heard_start : Heard 0 0
+  pub heard_start : Heard 0
   heard_start = let e : n - 0 ≡ n = omega arith in rw e refl
 
-  pub heard_more : (r k u v : ℕ) → k < n → u ≡ first (record_pair s blocks k) → v ≡ or_else r u → Heard r k → Heard v (k + 1)
-  unfolding record_tests
-  heard_more r k u v h eu ev e =
-      let m : n - k ≡ suc (n - suc k) = omega arith in
-      let rest = record_tests s blocks (suc k) (n - suc k) in
-      rw (add-one k, ev, eu)
-      (assoc r (first (record_pair s blocks k)) (first rest) ∙ ap (or_else r) (sym (first_join (record_pair s blocks k) rest tt)) ∙ (rw m at e))
-    where
-      assoc : (a b c : ℕ) → or_else (or_else a b) c ≡ or_else a (or_else b c)
-      assoc zero b c = refl
-      assoc (suc a) b c = refl
+  module _ (k : ℕ) (e : Heard k) where
+    module _ (h : k < n) (u : ℕ) (eu : u ≡ first (record_pair s blocks k)) where
+      more : n - k ≡ suc (n - suc k)
+      more = omega arith
 
-  pub heard_all : (r k : ℕ) → n ≤ k → Heard r k → r ≡ first (record_tests s blocks 0 n)
-  unfolding record_tests
-  heard_all r k h e =
-      let m : n - k ≡ 0 = omega arith in
-      sym (alone r) ∙ (rw m at e)
-    where
-      alone : (a : ℕ) → or_else a 0 ≡ a
-      alone zero = refl
-      alone (suc a) = refl
+      pub heard_stop : (u ≡ 0 → ⊥) → u ≡ first (record_tests s blocks 0 n)
+      unfolding record_tests
+      heard_stop z = stopped (record_pair s blocks k) (record_tests s blocks (suc k) (n - suc k)) tt u eu z ∙ (rw more at e)
+
+      pub heard_more : u ≡ 0 → first (record_tests s blocks (k + 1) (n - (k + 1))) ≡ first (record_tests s blocks 0 n)
+      unfolding record_tests
+      heard_more z =
+          rw (add-one k)
+          (went_on (record_pair s blocks k) (record_tests s blocks (suc k) (n - suc k)) tt u eu (first (record_tests s blocks (suc k) (n - suc k))) z refl
+          ∙ (rw more at e))
+
+    pub heard_all : n ≤ k → 0 ≡ first (record_tests s blocks 0 n)
+    unfolding record_tests
+    heard_all h = let m : n - k ≡ 0 = omega arith in rw m at e

@@ -1,6 +1,6 @@
 -- One product term's two openings, at its place among those before it.
 use Prim.Native.Nat.{ℕ, suc, ◌+◌, ◌*◌}
-use mathlib.Core.Path.{◌≡◌, refl}
+use mathlib.Core.Path.{◌≡◌, refl, ◌∙◌, ap}
 use mathlib.Core.List.{List, [], ◌∷◌}
 use lib.ListN.{length, set}
 use Rattle.shape.specs.declared.Shape.{Shape}
@@ -11,7 +11,11 @@ use Rattle.session.specs.Sessions.{shape_of, party_of}
 use Rattle.session.specs.Rows.{row_at}
 use Rattle.session.specs.Between.{Framed}
 use Rattle.blocks.specs.Between.{Recorded}
-use Rattle.walk.specs.declared.Opened.{Opened}
+use Rattle.std.specs.Prelude.{Result, Ok, Err}
+use Rattle.std.specs.Result.{result_and}
+use Rattle.refusal.specs.declared.Refusal.{Refusal}
+use Rattle.refusal.specs.Numbers.{refused}
+use Rattle.walk.specs.Number.{value_or_zero}
 use Rattle.mask_opening.specs.declared.OpenedPair.{OpenedPair}
 use Rattle.mask_opening.specs.Either.{either_of}
 use Rattle.mask_opening.specs.Pair.{opened_pair}
@@ -21,11 +25,18 @@ use Rattle.terms.specs.declared.Term.{Term}
 use Rattle.relation.specs.Tests.{Factors}
 use Rattle.relation.proofs.Loops.{walked}
 use Rattle.relation_writing.specs.declared.OpenedTerms.{OpenedTerms}
-use Rattle.relation_finish.specs.Steps.{kept_at, with_opened, opened_terms}
+use Rattle.relation_finish.specs.Steps.{Openings, shown, kept_at, with_opened, opened_terms}
 
-pub kept : (k : ℕ) (a b : Opened) (before : OpenedTerms) (u v : ℕ) → u ≡ either_of a.refusal b.refusal → v ≡ either_of before.refusal u
-    → ◌≡◌ {A = OpenedTerms} (record { refusal = v; y_a = set before.y_a k a.value; y_b = set before.y_b k b.value }) (kept_at k a b before)
-kept k a b before u v eu ev = rw (ev, eu) refl
+and_ok : {B : Type 0} (u : Result ℕ Refusal) (x : B) → refused (result_and u (Ok x)) ≡ refused u
+and_ok (Ok y) x = refl
+and_ok (Err r) x = refl
+
+pub kept : {B : Type 0} (k : ℕ) (a b u : Result ℕ Refusal) (before o : OpenedTerms) (x : B) (q : Result B Refusal) → refused u ≡ either_of (refused a) (refused b)
+    → q ≡ result_and u (Ok x) → refused o.checked ≡ either_of (refused before.checked) (refused q) → o.y_a ≡ set before.y_a k (value_or_zero a)
+    → o.y_b ≡ set before.y_b k (value_or_zero b) → shown o ≡ kept_at k a b (shown before)
+kept k a b u before o x q eu eq ev ea eb =
+    let h : refused q ≡ either_of (refused a) (refused b) = ap refused eq ∙ and_ok u x ∙ eu in
+    rw (ev, h, ea, eb) refl
 
 -- both masks opened with records of the lent list, as the code has them
 module _ (s : Session) (g : Shape) (eg : g ≡ shape_of s) (q : Party) (eq : q ≡ party_of s) (rows blocks : List ℕ) (k : ℕ) (t : Term) (x y : List ℕ) where
@@ -36,11 +47,11 @@ module _ (s : Session) (g : Shape) (eg : g ≡ shape_of s) (q : Party) (eq : q �
       party_maskable s q eq rows t.row t.second t.first x y f h.row_in h.second_in h.triple_in (own x lx) (own y ly)
 
   pub both_kept : x ≡ row_at (Lengths.record_length g) blocks (2 * k) → y ≡ row_at (Lengths.record_length g) blocks (2 * k + 1) → (pair : OpenedPair)
-      → pair ≡ opened_pair q rows t.row t.second t.first x y → (before o : OpenedTerms) → o ≡ kept_at k pair.a pair.b before
-      → o ≡ with_opened s rows blocks k t before
+      → pair ≡ opened_pair q rows t.row t.second t.first x y → (before o : OpenedTerms) → shown o ≡ kept_at k pair.a pair.b (shown before)
+      → shown o ≡ with_opened s rows blocks k t (shown before)
   both_kept ex ey pair ep before o eo = rw (ep, eq, ex, ey, eg) at eo
 
-pub opened_walk : (s : Session) (rows blocks : List ℕ) (k : ℕ) (ts : List Term) (o : OpenedTerms)
+pub opened_walk : (s : Session) (rows blocks : List ℕ) (k : ℕ) (ts : List Term) (o : Openings)
     → walked (with_opened s rows blocks) k ts o ≡ opened_terms s rows blocks k ts o
 unfolding opened_terms
 opened_walk s rows blocks k [] o = refl

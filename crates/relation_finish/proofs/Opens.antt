@@ -5,21 +5,23 @@ use mathlib.Core.Logic.{◌≢◌}
 use mathlib.Core.Bool.{Bool, true, false, ◌||◌}
 use mathlib.Core.List.{List, [], ◌∷◌, ◌++◌}
 use native.Mathlib.Omega.{arith}
-use lib.ListN.{length, get_or, set, take, length-set, length-take, length-replicate}
+use lib.ListN.{length, get_or, length-set, length-take, length-replicate}
 use lib.Seq.{get_or-set_same, get_or-set_other}
 use Rattle.refusal.specs.Refusal.{Test, ◌when◌, first, or_else, outcome, AllFail}
 use Rattle.refusal.proofs.Laws.{Numbered, first_join, all_fail, not_refused}
 use Rattle.refusal.proofs.Groups.{fail_parts}
-use Rattle.refusal.proofs.Endings.{refused, accepted}
+use Rattle.std.specs.Prelude.{Result}
+use Rattle.refusal.specs.declared.Refusal.{Refusal}
+use Rattle.refusal.specs.Numbers.{refused}
+use Rattle.refusal.proofs.Endings.{refused as refused_end, accepted}
 use Rattle.session.specs.declared.Session.{Session}
 use Rattle.session.specs.declared.Answer.{Answer}
-use Rattle.session.specs.Sessions.{shape_of, party_of, holding, marked, sharing_all}
+use Rattle.session.specs.Sessions.{shape_of, holding, marked, sharing_all}
 use Rattle.session.specs.Between.{Framed, RowIn}
 use Rattle.shape.specs.Bounds.{last_row_at}
 use Rattle.shape.specs.Marks.{held}
 use Rattle.session.proofs.Endings.{refused_answer, accepted_answer}
-use Rattle.walk.specs.declared.Opened.{Opened}
-use Rattle.walk.proofs.Settles.{decided, opened_decided}
+use Rattle.walk.specs.Number.{value_or_zero, or_nine}
 use Rattle.opening.specs.Walking.{too_few_of, disagree, opened, opened_row}
 use Rattle.mask_opening.specs.Either.{either_of}
 use Rattle.multiply.specs.Multiply.{with_product}
@@ -32,7 +34,7 @@ use Rattle.relation.specs.Finish.{record_a_of, record_b_of, term_mask_a, term_ma
 use Rattle.relation.specs.Finish.{with_products, with_sum, pair_done, finished_terms, relation_done, number_rows}
 use Rattle.relation.specs.Finish.{relation_finish_checks, relation_finish_refusal, relation_finish_answer, relation_finish_rows}
 use Rattle.relation_writing.specs.Steps.{products_written, triples_finished}
-use Rattle.relation_finish.specs.Steps.{with_opened, opened_terms, unopened, opened_all, unopened_by, opened_finish}
+use Rattle.relation_finish.specs.Steps.{Openings, shown, with_opened, opened_terms, unopened, opened_all, unopened_by, opened_finish}
 use Rattle.relation.proofs.Passing.{numbered_append}
 use Rattle.relation.proofs.Numbering.{checks_numbered, few_numbered, open_numbered}
 use Rattle.relation.proofs.Loops.{walked}
@@ -53,14 +55,12 @@ told_either false false true false = refl
 told_either false false false true = refl
 told_either false false false false = refl
 
-refusal_told : (f d : Bool) (v : ℕ) → (decided f d v).refusal ≡ told f d
-unfolding outcome
+refusal_told : (f d : Bool) (v : ℕ) → refused (or_nine f d v) ≡ told f d
 refusal_told true d v = refl
 refusal_told false true v = refl
 refusal_told false false v = refl
 
-value_of : (f d : Bool) (v : ℕ) → f ≡ false → d ≡ false → (decided f d v).value ≡ v
-unfolding outcome
+value_of : (f d : Bool) (v : ℕ) → f ≡ false → d ≡ false → value_or_zero (or_nine f d v) ≡ v
 value_of f d v ef ed = rw (ef, ed) refl
 
 -- a condition on either record of some product term, from place k on
@@ -117,21 +117,21 @@ module _ (s : Session) (rows blocks : List ℕ) where
   abbrev off_b : ℕ → Term → Bool
   off_b k t = disagree s (xb t) (record_b_of s blocks k)
 
-  a_is : (k : ℕ) (t : Term) → opened_row s (xa t) (record_a_of s blocks k) ≡ decided (few_a k t) (off_a k t) (opened s (xa t) (record_a_of s blocks k))
-  a_is k t = opened_decided (party_of s) (xa t) (record_a_of s blocks k)
+  a_is : (k : ℕ) (t : Term) → opened_row s (xa t) (record_a_of s blocks k) ≡ or_nine (few_a k t) (off_a k t) (opened s (xa t) (record_a_of s blocks k))
+  a_is k t = refl
 
-  b_is : (k : ℕ) (t : Term) → opened_row s (xb t) (record_b_of s blocks k) ≡ decided (few_b k t) (off_b k t) (opened s (xb t) (record_b_of s blocks k))
-  b_is k t = opened_decided (party_of s) (xb t) (record_b_of s blocks k)
+  b_is : (k : ℕ) (t : Term) → opened_row s (xb t) (record_b_of s blocks k) ≡ or_nine (few_b k t) (off_b k t) (opened s (xb t) (record_b_of s blocks k))
+  b_is k t = refl
 
   term_told : (k : ℕ) (t : Term)
-      → either_of (opened_row s (xa t) (record_a_of s blocks k)).refusal (opened_row s (xb t) (record_b_of s blocks k)).refusal
+      → either_of (refused (opened_row s (xa t) (record_a_of s blocks k))) (refused (opened_row s (xb t) (record_b_of s blocks k)))
       ≡ told (few_a k t || few_b k t) (off_a k t || off_b k t)
   term_told k t =
-      ap₂ (λ (a b : Opened). either_of a.refusal b.refusal) (a_is k t) (b_is k t)
+      ap₂ (λ (a b : Result ℕ Refusal). either_of (refused a) (refused b)) (a_is k t) (b_is k t)
       ∙ ap₂ either_of (refusal_told (few_a k t) (off_a k t) (opened s (xa t) (record_a_of s blocks k))) (refusal_told (few_b k t) (off_b k t) (opened s (xb t) (record_b_of s blocks k)))
       ∙ told_either (few_a k t) (few_b k t) (off_a k t) (off_b k t)
 
-  opened_told : (k : ℕ) (ts : List Term) (o : OpenedTerms) (f d : Bool) → o.refusal ≡ told f d
+  opened_told : (k : ℕ) (ts : List Term) (o : Openings) (f d : Bool) → o.refusal ≡ told f d
       → (opened_terms s rows blocks k ts o).refusal ≡ told (f || any_at few_a few_b k ts) (d || any_at off_a off_b k ts)
   unfolding opened_terms
   opened_told k [] o f d e = e ∙ ap₂ told (sym (or_none f)) (sym (or_none d))
@@ -154,7 +154,7 @@ module _ (s : Session) (rows blocks : List ℕ) where
       (any_first 9 few_a few_b 0 ts) (any_first 13 off_a off_b 0 ts))
 
   -- a later term leaves the numbers of those before it
-  kept_below : (k : ℕ) (ts : List Term) (o : OpenedTerms) (i : ℕ) → i < k
+  kept_below : (k : ℕ) (ts : List Term) (o : Openings) (i : ℕ) → i < k
       → (get_or (opened_terms s rows blocks k ts o).y_a i 0 ≡ get_or o.y_a i 0) × (get_or (opened_terms s rows blocks k ts o).y_b i 0 ≡ get_or o.y_b i 0)
   unfolding opened_terms
   kept_below k [] o i h = (refl, refl)
@@ -164,7 +164,7 @@ module _ (s : Session) (rows blocks : List ℕ) where
       (q.0 ∙ get_or-set_other o.y_a k i _ 0 other, q.1 ∙ get_or-set_other o.y_b k i _ 0 other)
 
   -- what is done with each term and its numbers in the two lists is done with the numbers that it opens to
-  with_own : {X : Type 0} (f : ℕ → ℕ → Term → X → X) (k : ℕ) (ts : List Term) (o : OpenedTerms) (now : X) → length o.y_a ≡ most_terms
+  with_own : {X : Type 0} (f : ℕ → ℕ → Term → X → X) (k : ℕ) (ts : List Term) (o : Openings) (now : X) → length o.y_a ≡ most_terms
       → length o.y_b ≡ most_terms → k + length ts ≤ most_terms → AllFail (each_at_of (few_tests s rows blocks) k ts) → AllFail (each_at_of (off_tests s rows blocks) k ts)
       → walked (λ i t x. f (get_or (opened_terms s rows blocks k ts o).y_a i 0) (get_or (opened_terms s rows blocks k ts o).y_b i 0) t x) k ts now
       ≡ walked (λ i t x. f (term_number_a s rows blocks i t) (term_number_b s rows blocks i t) t x) k ts now
@@ -176,10 +176,10 @@ module _ (s : Session) (rows blocks : List ℕ) where
       let g = fail_parts (off_tests s rows blocks k t) (offs (suc k) ts) off in
       let q = kept_below (suc k) ts p k (omega arith) in
       let ya : get_or (opened_terms s rows blocks (suc k) ts p).y_a k 0 ≡ term_number_a s rows blocks k t =
-      q.0 ∙ get_or-set_same o.y_a k _ 0 (omega arith) ∙ ap (λ (z : Opened). z.value) (a_is k t)
+      q.0 ∙ get_or-set_same o.y_a k _ 0 (omega arith) ∙ ap value_or_zero (a_is k t)
       ∙ value_of (few_a k t) (off_a k t) (term_number_a s rows blocks k t) m.0.0 g.0.0 in
       let yb : get_or (opened_terms s rows blocks (suc k) ts p).y_b k 0 ≡ term_number_b s rows blocks k t =
-      q.1 ∙ get_or-set_same o.y_b k _ 0 (omega arith) ∙ ap (λ (z : Opened). z.value) (b_is k t)
+      q.1 ∙ get_or-set_same o.y_b k _ 0 (omega arith) ∙ ap value_or_zero (b_is k t)
       ∙ value_of (few_b k t) (off_b k t) (term_number_b s rows blocks k t) m.0.1.0 g.0.1.0 in
       with_own f (suc k) ts p (f (get_or (opened_terms s rows blocks (suc k) ts p).y_a k 0) (get_or (opened_terms s rows blocks (suc k) ts p).y_b k 0) t now)
       (length-set o.y_a k _ ∙ la) (length-set o.y_b k _ ∙ lb) (omega arith) m.1 g.1
@@ -194,12 +194,12 @@ module _ (s : Session) (rows : List ℕ) (all : Terms) (d : ℕ) (blocks : List 
 
   -- 1 to 8 stop the call, or the openings settle it
   module _ (f : ℕ) (e : f ≡ first (relation_finish_checks s rows all d blocks)) where
-    pub terms_unopened : (f ≡ 0 → ⊥) → (o : OpenedTerms) → o ≡ unopened_by f → o ≡ opened_finish s rows all d blocks
+    pub terms_unopened : (f ≡ 0 → ⊥) → (o : OpenedTerms) → shown o ≡ unopened_by f → shown o ≡ opened_finish s rows all d blocks
     terms_unopened n o eo =
-        eo ∙ ap unopened_by e ∙ refused f (first checks) (opened_all s rows all blocks) (unopened_by (first checks)) e n
+        eo ∙ ap unopened_by e ∙ refused_end f (first checks) (opened_all s rows all blocks) (unopened_by (first checks)) e n
 
-    pub terms_opened : f ≡ 0 → (o : OpenedTerms) → o ≡ opened_all s rows all blocks → o ≡ opened_finish s rows all d blocks
-    terms_opened z o eo = accepted f (first checks) o (opened_all s rows all blocks) (unopened_by (first checks)) e z eo
+    pub terms_opened : f ≡ 0 → (o : OpenedTerms) → shown o ≡ opened_all s rows all blocks → shown o ≡ opened_finish s rows all d blocks
+    terms_opened z o eo = accepted f (first checks) (shown o) (opened_all s rows all blocks) (unopened_by (first checks)) e z eo
 
   refusal_of_lem : (k : ℕ) → (outcome k (opened_all s rows all blocks) (unopened_by k)).refusal ≡ or_else k (first opens)
   unfolding outcome
@@ -212,7 +212,10 @@ module _ (s : Session) (rows : List ℕ) (all : Terms) (d : ℕ) (blocks : List 
   numbers_of (suc k) e = absurd (omega arith)
 
   -- the call's two ends
-  module _ (c : Counted all) (o : OpenedTerms) (e : o ≡ opened_finish s rows all d blocks) where
+  module _ (c : Counted all) (given : OpenedTerms) (e : shown given ≡ opened_finish s rows all d blocks) where
+    abbrev o : Openings
+    o = shown given
+
     abbrev done : Session
     done = relation_done s rows blocks (factors_of all) (terms_of all) d
 
@@ -222,7 +225,7 @@ module _ (s : Session) (rows : List ℕ) (all : Terms) (d : ℕ) (blocks : List 
     refusal_is : o.refusal ≡ relation_finish_refusal s rows all d blocks
     unfolding relation_finish_refusal
     refusal_is =
-        ap (λ (x : OpenedTerms). x.refusal) e ∙ refusal_of_lem (first checks)
+        ap (λ (x : Openings). x.refusal) e ∙ refusal_of_lem (first checks)
         ∙ sym (first_join checks opens (checks_numbered s rows all d blocks))
 
     module _ (n : o.refusal ≡ 0 → ⊥) where
@@ -230,7 +233,7 @@ module _ (s : Session) (rows : List ℕ) (all : Terms) (d : ℕ) (blocks : List 
       finish_refused a h = h ∙ refused_answer o.refusal (relation_finish_refusal s rows all d blocks) 0 s done s refusal_is n refl
 
       pub finish_kept : rows ≡ relation_finish_rows s rows all d blocks
-      finish_kept = refused o.refusal (relation_finish_refusal s rows all d blocks) whole rows refusal_is n
+      finish_kept = refused_end o.refusal (relation_finish_refusal s rows all d blocks) whole rows refusal_is n
 
     module _ (z : o.refusal ≡ 0) where
       fails : AllFail (relation_finish_checks s rows all d blocks) × AllFail (open_tests s rows blocks 0 (factors_of all))
@@ -274,7 +277,7 @@ module _ (s : Session) (rows : List ℕ) (all : Terms) (d : ℕ) (blocks : List 
       owned f now =
           let l : 0 + length (factors_of all) ≤ most_terms = omega (arith, length-take all.products all.factors, finish_few.products_in) in
           let split = fail_parts (fews s rows blocks 0 (factors_of all)) (offs s rows blocks 0 (factors_of all)) fails.1 in
-          ap (λ (x : OpenedTerms). walked (λ i t y. f (get_or x.y_a i 0) (get_or x.y_b i 0) t y) 0 (factors_of all) now) numbers_are
+          ap (λ (x : Openings). walked (λ i t y. f (get_or x.y_a i 0) (get_or x.y_b i 0) t y) 0 (factors_of all) now) numbers_are
           ∙ with_own s rows blocks f 0 (factors_of all) unopened now (length-replicate {A = ℕ} most_terms 0) (length-replicate {A = ℕ} most_terms 0) l split.0 split.1
 
       pub finish_done : (g : Session) (a : Answer) → g ≡ sharing_all (triples_finished o.y_a o.y_b 0 (factors_of all) s) d (number_rows (terms_of all))

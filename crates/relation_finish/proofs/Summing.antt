@@ -15,7 +15,7 @@ use Rattle.sums.proofs.Writers.{length_combined}
 use Rattle.sums.proofs.Summed.{length_plus_sums}
 use Rattle.terms.specs.declared.Term.{Term}
 use Rattle.relation.specs.Tests.{by_kind}
-use Rattle.relation.specs.Finish.{number_row_of, plus_term, plus_terms, cleared, with_sum}
+use Rattle.relation.specs.Finish.{number_row_of, plus_term, plus_terms, cleared}
 use Rattle.relation_finish.specs.Sums.{row_of, added, SumOfTerms}
 
 row_of_lem : (t : Term) → number_row_of t ≡ row_of t

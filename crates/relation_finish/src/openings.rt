@@ -3,53 +3,39 @@ ghost use Rattle.std.specs.Prelude.{◌≡◌, ◌*◌, ◌<◌, length};
 ghost use Rattle.shape.specs.Lengths.{record_length};
 ghost use Rattle.session.specs.Sessions.{shape_of};
 ghost use Rattle.session.specs.Between.{Framed};
-ghost use Rattle.mask_opening.specs.Pair.{opened_pair};
-ghost use Rattle.mask_opening.specs.Between.{Maskable};
+ghost use Rattle.refusal.specs.Numbers.{refused};
 ghost use Rattle.terms.specs.Listed.{most_terms, factors_of};
 ghost use Rattle.relation.specs.Tests.{Few, Every, Factors};
 ghost use Rattle.relation_checks.specs.Steps.{Pair};
-ghost use Rattle.relation_finish.specs.Steps.{kept_at, with_opened, opened_all, unopened_by};
+ghost use Rattle.relation_finish.specs.Steps.{shown, kept_at, with_opened, opened_all, unopened_by};
 
-use mask_opening::OpenedPair;
+use mask_opening::Masks;
+use refusal::Refusal;
 use relation_writing::OpenedTerms;
-use session::{Party, Session};
+use session::Session;
 use terms::{Term, Terms};
-use walk::Opened;
-
-// Both masks of a product term, in rooms that fit the station.
-fn open_pair(
-    party: Party,
-    rows: &[u32],
-    a: usize,
-    b: usize,
-    first: usize,
-    record_a: &[u32],
-    record_b: &[u32],
-) -> OpenedPair
-    requires { Maskable party rows.now a b first record_a.now record_b.now }
-    ensures { result ≡ opened_pair party rows.now a b first record_a.now record_b.now }
-{
-    let shape = party.shape;
-    if shape.n <= shape::FEW_POSTS {
-        return mask_opening::open_few_pair(party, rows, a, b, first, record_a, record_b);
-    }
-    mask_opening::open_most_pair(party, rows, a, b, first, record_a, record_b)
-}
 
 // 9, or else 13, of the product term at place k behind those before it, and its two numbers.
-fn keep(k: usize, a: Opened, b: Opened, before: OpenedTerms) -> OpenedTerms
+#[tactic(auto, using(crate::proofs::Kept::kept))]
+fn keep(
+    k: usize,
+    a: Result<u32, Refusal>,
+    b: Result<u32, Refusal>,
+    before: OpenedTerms,
+) -> OpenedTerms
     requires { k < most_terms }
-    ensures { result ≡ kept_at k a b before }
+    ensures { shown result ≡ kept_at k a b (shown before) }
 {
-    let own = mask_opening::either(a.refusal, b.refusal);
+    let own = mask_opening::either(a, b).and(Ok(()));
     let mut opened = before;
-    opened.refusal = mask_opening::either(before.refusal, own);
-    opened.y_a[k] = a.value;
-    opened.y_b[k] = b.value;
+    opened.checked = mask_opening::either(before.checked, own);
+    opened.y_a[k] = a.unwrap_or(0);
+    opened.y_b[k] = b.unwrap_or(0);
     opened
 }
 
 // The product term at place k: its two openings, behind those before it.
+#[tactic(auto, using(session::proofs::Calls::same_valid, relation_checks::proofs::Pairs::same_room, crate::proofs::Kept::term_maskable, crate::proofs::Kept::both_kept))]
 fn open_term(
     session: Session,
     rows: &[u32],
@@ -59,30 +45,31 @@ fn open_term(
     before: OpenedTerms,
 ) -> OpenedTerms
     requires { Framed session rows.now × Pair session blocks.now k × Factors (shape_of session) term }
-    ensures { result ≡ with_opened session rows.now blocks.now k term before }
+    ensures { shown result ≡ with_opened session rows.now blocks.now k term (shown before) }
 {
     let shape = session.shape();
     let place = 2 * k;
     let record_a = relation_checks::record(shape, blocks, place);
     let record_b = relation_checks::record(shape, blocks, place + 1);
-    let pair = open_pair(
-        session.party(),
+    let masks = Masks {
+        party: session.party(),
         rows,
-        term.row as usize,
-        term.second as usize,
-        term.first as usize,
+        a: term.row as usize,
+        b: term.second as usize,
+        first: term.first as usize,
         record_a,
         record_b,
-    );
+    };
+    let pair = masks.open();
     keep(k, pair.a, pair.b, before)
 }
 
-// No numbers yet, and this refusal.
-pub fn unopened(refusal: u8) -> OpenedTerms
-    ensures { result ≡ unopened_by refusal }
+// No numbers yet, and what the checks found.
+pub fn unopened(checked: Result<(), Refusal>) -> OpenedTerms
+    ensures { shown result ≡ unopened_by (refused checked) }
 {
     OpenedTerms {
-        refusal,
+        checked,
         y_a: [0; terms::MOST_TERMS],
         y_b: [0; terms::MOST_TERMS],
     }
@@ -92,11 +79,11 @@ pub fn unopened(refusal: u8) -> OpenedTerms
 pub fn open_terms(session: Session, rows: &[u32], all: Terms, blocks: &[u32]) -> OpenedTerms
     requires { Framed session rows.now × Few all × Every (Factors (shape_of session)) (factors_of all)
         × (length blocks.now ≡ all.products * (2 * record_length (shape_of session))) }
-    ensures { result ≡ opened_all session rows.now all blocks.now }
+    ensures { shown result ≡ opened_all session rows.now all blocks.now }
 {
-    let mut opened = unopened(0);
-    for k in 0..all.products {
-        opened = open_term(session, rows, blocks, k, all.factors[k], opened);
+    let mut opened = unopened(Ok(()));
+    for (k, &term) in all.factors[..all.products].iter().enumerate() {
+        opened = open_term(session, rows, blocks, k, term, opened);
     }
     opened
 }

@@ -1,41 +1,32 @@
--- The masks of all product terms: the refusal from the groups of checks that the code joins and what
+-- The masks of all product terms: the refusal from the groups of checks that the code asks and what
 -- holds where there is none.
-use Prim.Native.Nat.{ℕ, zero, suc, ◌+◌, ◌*◌, ◌-◌, ◌≤◌, ◌<◌}
-use mathlib.Core.Path.{◌≡◌, refl, sym, ◌∙◌, ap, ap₂}
+use Prim.Native.Nat.{ℕ, ◌*◌, ◌<◌}
+use mathlib.Core.Path.{◌≡◌, sym, ◌∙◌}
 use mathlib.Core.List.{List, [], ◌∷◌, ◌++◌}
 use native.Mathlib.Omega.{arith}
-use lib.ListN.{length, take, drop}
+use lib.ListN.{length}
 use Rattle.shape.specs.declared.Shape.{Shape}
 use Rattle.shape.specs.Lengths.{Valid, row_length, masks_length}
-use Rattle.refusal.specs.Refusal.{Test, ◌when◌, first, or_else}
-use Rattle.refusal.specs.Conditions.{wrong_length}
+use Rattle.refusal.specs.Refusal.{Test, ◌when◌, first}
 use Rattle.refusal.proofs.Laws.{equal, all_fail}
-use Rattle.refusal.proofs.Groups.{chained, stopped, went_on, fail_parts}
-use Rattle.refusal.proofs.Endings.{refused, accepted}
+use Rattle.refusal.proofs.Groups.{stopped, went_on, fail_parts}
+use Rattle.refusal.proofs.Endings.{accepted}
 use Rattle.session.specs.declared.Session.{Session}
 use Rattle.session.specs.Sessions.{shape_of}
-use Rattle.session.specs.Rows.{width, with_row}
+use Rattle.session.specs.Rows.{width}
 use Rattle.session.specs.Checks.{frame_tests}
 use Rattle.session.specs.Between.{Framed, Sized}
 use Rattle.session.proofs.Calls.{frame_passed, stopped_at_frame, past_frame, allowed}
-use Rattle.product_masks.proofs.Joining.{joined}
 use Rattle.shape.specs.Marks.{unused}
 use Rattle.terms.specs.declared.Terms.{Terms}
 use Rattle.terms.specs.Listed.{terms_of, factors_of}
-use Rattle.relation.specs.Tests.{each, bad_count, place_tests, mark_tests, named_twice_of, Counted, Few, Every, Factors, Placed}
+use Rattle.relation.specs.Tests.{each, place_tests, mark_tests, named_twice_of, Counted, Few, Every, Factors, Placed}
 use Rattle.relation.specs.Masks.{masks_sizes, masks_marks, mask_number_tests, masks_own, relation_masks_refusal, term_masks, relation_masks_out}
 use Rattle.relation.proofs.Numbering.{placed_numbered, unused_numbered, mask_marks_numbered, masks_numbered}
 use Rattle.relation.proofs.Passing.{every_placed, every_factors, few}
 
 pub masks_some : (g : Shape) (k : ℕ) → Valid g → k ≡ masks_length g → 0 < k
 masks_some g k v e = omega (arith, e)
-
-pub masks_sized : (s : Session) (g : Shape) (all : Terms) (out : List ℕ) (k u v w : ℕ) → g ≡ shape_of s → k ≡ masks_length g
-    → u ≡ first (5 when wrong_length out (all.products * k) ∷ []) → v ≡ first (14 when bad_count all.count ∷ []) → w ≡ or_else u v
-    → w ≡ first (masks_sizes s all out)
-masks_sized s g all out k u v w eg ek eu ev ew =
-    let h : u ≡ first (5 when wrong_length out (all.products * masks_length (shape_of s)) ∷ []) = rw (ek, eg) at eu in
-    chained (masks_sizes s all out) tt w (cc)
 
 module _ (s : Session) (rows : List ℕ) (all : Terms) where
   abbrev places : List Test
@@ -53,15 +44,31 @@ module _ (s : Session) (rows : List ℕ) (all : Terms) where
       pub own_placed : (g : Shape) → Every (Placed g) (terms_of all)
       own_placed g = every_placed g (terms_of all) (all_fail places (placed_numbered all) (sym e ∙ z))
 
-      pub own_done : (g : Shape) (u v m w x : ℕ) → g ≡ shape_of s → u ≡ first (each (mark_tests s unused) (terms_of all))
-          → v ≡ first (7 when named_twice_of (factors_of all) ∷ []) → m ≡ or_else u v
-          → w ≡ first (each (mask_number_tests (row_length g) rows) (terms_of all)) → x ≡ or_else m w → x ≡ first (masks_own s rows all)
-      own_done g u v m w x eg eu ev em ew ex =
-          went_on places (masks_marks s all ++ numbers) (placed_numbered all) p e x z
-          (joined (masks_marks s all) numbers (mask_marks_numbered s rows all) m w x
-          (joined (each (mark_tests s unused) (terms_of all)) (7 when named_twice_of (factors_of all) ∷ [])
-          (unused_numbered s rows all) u v m eu ev em)
-          (rw eg at ew) ex)
+      behind : (x : ℕ) → x ≡ first (masks_marks s all ++ numbers) → x ≡ first (masks_own s rows all)
+      behind x = went_on places (masks_marks s all ++ numbers) (placed_numbered all) p e x z
+
+      -- 7 stops it, of the marks or of a triple named twice, or 8 decides
+      module _ (u : ℕ) (eu : u ≡ first (each (mark_tests s unused) (terms_of all))) where
+        abbrev twice : List Test
+        twice = 7 when named_twice_of (factors_of all) ∷ []
+
+        pub own_unmarked : (u ≡ 0 → ⊥) → u ≡ first (masks_own s rows all)
+        own_unmarked n =
+            behind u
+            (stopped (masks_marks s all) numbers (mask_marks_numbered s rows all) u
+            (stopped (each (mark_tests s unused) (terms_of all)) twice (unused_numbered s rows all) u eu n) n)
+
+        module _ (y : u ≡ 0) (v : ℕ) (ev : v ≡ first (7 when named_twice_of (factors_of all) ∷ [])) where
+          marks_are : v ≡ first (masks_marks s all)
+          marks_are = went_on (each (mark_tests s unused) (terms_of all)) twice (unused_numbered s rows all) u eu v y ev
+
+          pub own_twice : (v ≡ 0 → ⊥) → v ≡ first (masks_own s rows all)
+          own_twice n = behind v (stopped (masks_marks s all) numbers (mask_marks_numbered s rows all) v marks_are n)
+
+          pub own_done : v ≡ 0 → (g : Shape) (w : ℕ) → g ≡ shape_of s → w ≡ first (each (mask_number_tests (row_length g) rows) (terms_of all))
+              → w ≡ first (masks_own s rows all)
+          own_done k g w eg ew =
+              behind w (went_on (masks_marks s all) numbers (mask_marks_numbered s rows all) v marks_are w k (rw eg at ew))
 
 -- the frame stops the call, or the sizes do, or it goes on
 module _ (s : Session) (rows : List ℕ) (all : Terms) (out : List ℕ) (c : Counted all) where

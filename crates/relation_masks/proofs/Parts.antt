@@ -1,10 +1,10 @@
 -- The lent list of masks: each product term's masks stand in the part of their place, so the whole list is all masks in order.
-use Prim.Native.Nat.{ℕ, zero, suc, ◌+◌, ◌*◌, ◌-◌, ◌≤◌, ◌<◌}
+use Prim.Native.Nat.{ℕ, suc, ◌+◌, ◌*◌, ◌-◌, ◌≤◌, ◌<◌}
 use mathlib.Core.Path.{◌≡◌, refl, sym, ◌∙◌, ap, ap₂}
-use mathlib.Core.List.{List, [], ◌∷◌, ◌++◌, append-nil, append_assoc}
+use mathlib.Core.List.{List, [], ◌∷◌, ◌++◌, append_assoc}
 use native.Mathlib.Nat.{suc-mul}
 use native.Mathlib.Omega.{arith}
-use lib.ListN.{length, take, drop, length-append, length-drop}
+use lib.ListN.{length, drop, length-append, length-drop}
 use lib.Seq.{take_at, drop_at, length-take-le}
 use Rattle.field.specs.Modulus.{p}
 use Rattle.shape.specs.declared.Shape.{Shape}
@@ -12,7 +12,7 @@ use Rattle.shape.specs.Bounds.{row_count_of}
 use Rattle.shape.specs.Lengths.{row_length, v_length, masks_length}
 use Rattle.shape.specs.Row.{coefficients}
 use Rattle.session.specs.Rows.{row_at, with_row}
-use Rattle.session.specs.Between.{Sized, RowIn, TripleIn}
+use Rattle.session.specs.Between.{Sized, RowIn}
 use Rattle.session.proofs.Passed.{row_below}
 use Rattle.session.proofs.RowLaws.{next, length_row, length_with_row}
 use Rattle.sums.proofs.Writers.{length_combined}

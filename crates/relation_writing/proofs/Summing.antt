@@ -1,6 +1,6 @@
 -- What a relation's finish writes: the products, the cleared row, and the sum of the terms; and the session that it leaves.
-use Prim.Native.Nat.{ℕ, suc, ◌+◌, ◌*◌, ◌-◌, ◌<◌}
-use mathlib.Core.Path.{◌≡◌, refl, sym, ◌∙◌, ap, ap₂}
+use Prim.Native.Nat.{ℕ, suc, ◌+◌, ◌*◌, ◌-◌}
+use mathlib.Core.Path.{◌≡◌, refl, sym, ◌∙◌, ap}
 use mathlib.Core.Bool.{Bool, true, false}
 use mathlib.Core.List.{List, [], ◌∷◌}
 use native.Mathlib.Omega.{arith}
@@ -17,14 +17,13 @@ use Rattle.session.specs.Sessions.{shape_of, with_barred, sharing_all, holding, 
 use Rattle.session.specs.Rows.{row_at, with_row, summed}
 use Rattle.session.specs.Between.{Framed, Sized, RowIn, TripleIn}
 use Rattle.session.proofs.Passed.{row_below}
-use Rattle.session.proofs.RowLaws.{row_part, row_wide, row_put}
+use Rattle.session.proofs.RowLaws.{row_wide, row_put}
 use Rattle.multiply.specs.Multiply.{product_row, with_product}
 use Rattle.terms.specs.declared.Term.{Term}
-use Rattle.terms.specs.declared.Terms.{Terms}
-use Rattle.terms.specs.Listed.{most_terms, blank, plain}
-use Rattle.relation.specs.Tests.{by_kind, Factors, Placed, Few}
+use Rattle.terms.specs.Listed.{plain}
+use Rattle.relation.specs.Tests.{by_kind, Factors, Placed}
 use Rattle.relation.specs.Finish.{term_number_a, term_number_b, with_products, number_row_of, number_rows, plus_term, plus_terms, with_sum, pair_done, finished_terms}
-use Rattle.relation_writing.specs.Steps.{coefficient_at_of, plus_times, products_written, triples_finished}
+use Rattle.relation_writing.specs.Steps.{products_written, triples_finished}
 use Rattle.relation.proofs.Loops.{walked}
 
 -- the row with a term's number
@@ -70,8 +69,8 @@ module _ (s : Session) (g : Shape) (eg : g ≡ shape_of s) (rows : List ℕ) (t 
 
   pub sum_is : (d c r : ℕ) (out : List ℕ) → r ≡ number_row_of t
       → out ≡ with_row (row_length g) d (summed (Lengths.sums_at_of g) c 0 (row_at (row_length g) rows d) (row_at (row_length g) rows r)) rows
-      → out ≡ plus_times s d c (number_row_of t) rows
-  sum_is d c r out e eo = rw (eg, e) at eo
+      → c ≡ t.coefficient → out ≡ plus_term s d t rows
+  sum_is d c r out e eo ec = rw (eg, e, ec) at eo
 
 abbrev pub product_in : Session → List ℕ → List ℕ → ℕ → Term → List ℕ → List ℕ
 product_in s y_a_of y_b_of k t rows = with_product s (get_or y_a_of k 0) (get_or y_b_of k 0) t.first rows
@@ -81,15 +80,6 @@ pub products_walk : (s : Session) (y_a_of y_b_of : List ℕ) (k : ℕ) (ts : Lis
 unfolding products_written
 products_walk s y_a_of y_b_of k [] rows = refl
 products_walk s y_a_of y_b_of k (t ∷ ts) rows = products_walk s y_a_of y_b_of (suc k) ts (product_in s y_a_of y_b_of k t rows)
-
--- the place of a term is one of the array's
-pub term_place : (all : Terms) (i : ℕ) → Few all → i < all.count → i < most_terms
-term_place all i few h = omega (arith, few.terms_in)
-
--- the sum with a term's own coefficient
-pub term_added : (s : Session) (all : Terms) (d i c : ℕ) (rows out : List ℕ) → c ≡ coefficient_at_of all i
-    → out ≡ plus_times s d c (number_row_of (get_or all.list i blank)) rows → out ≡ plus_term s d (get_or all.list i blank) rows
-term_added s all d i c rows out e eo = rw e at eo
 
 abbrev pub term_in : Session → ℕ → ℕ → Term → List ℕ → List ℕ
 term_in s d k t rows = plus_term s d t rows

@@ -1,12 +1,9 @@
 -- The steps of a relation's writing, as its functions hand them on: the products and the session from every product term's two numbers, in
--- two lists by the term's place; and the sum.
+-- two lists by the term's place.
 use Rattle.std.specs.Prelude.{ℕ, suc, List, [], ◌∷◌, get_or}
 use Rattle.session.specs.declared.Session.{Session}
-use Rattle.session.specs.Rows.{width, sums_at_of, row_at, with_row, summed}
 use Rattle.multiply.specs.Multiply.{with_product}
 use Rattle.terms.specs.declared.Term.{Term}
-use Rattle.terms.specs.declared.Terms.{Terms}
-use Rattle.terms.specs.Listed.{blank}
 use Rattle.relation.specs.Finish.{pair_done}
 
 -- The products, written from the two lists.
@@ -14,14 +11,6 @@ unfoldable pub products_written : Session → List ℕ → List ℕ → ℕ → 
 products_written s y_a_of y_b_of k [] rows = rows
 products_written s y_a_of y_b_of k (t ∷ ts) rows =
     products_written s y_a_of y_b_of (suc k) ts (with_product s (get_or y_a_of k 0) (get_or y_b_of k 0) t.first rows)
-
--- The coefficient of the term at place i.
-abbrev pub coefficient_at_of : Terms → ℕ → ℕ
-coefficient_at_of all i = (get_or all.list i blank).coefficient
-
--- Row d plus c times row r: `plus_term` of a term with these.
-abbrev pub plus_times : Session → ℕ → ℕ → ℕ → List ℕ → List ℕ
-plus_times s d c r rows = with_row (width s) d (summed (sums_at_of s) c 0 (row_at (width s) rows d) (row_at (width s) rows r)) rows
 
 -- The triples as the pair of calls leaves them, from the two lists.
 unfoldable pub triples_finished : List ℕ → List ℕ → ℕ → List Term → Session → Session

@@ -11,7 +11,9 @@ use Rattle.refusal.specs.Refusal.{outcome}
 use Rattle.refusal.proofs.Endings.{refused, accepted}
 use Rattle.session.specs.declared.Session.{Session}
 use Rattle.session.specs.declared.Answer.{Answer}
-use Rattle.session.specs.Sessions.{with_marks, holding, answer}
+use Rattle.shape.specs.declared.Points.{Points}
+use Rattle.refusal.specs.Refusal.{first}
+use Rattle.session.specs.Sessions.{with_marks, as_many_of, no_points, session_of, session_tests, created, holding, answer}
 use Rattle.session.specs.Between.{Allows}
 
 pub refused_answer : (r x value : ℕ) (s new old : Session) → r ≡ x → (r ≡ 0 → ⊥) → s ≡ old → holding r 0 s ≡ answer x value new old
@@ -38,6 +40,10 @@ module _ (r : ℕ) (new old : Session) where
   pub made_refused : (s : Session) → (r ≡ 0 → ⊥) → s ≡ old → holding r 0 s ≡ answer r 0 new old
   made_refused s n e = ap (holding r 0) e ∙ ends_refused n
 
+-- the number of a check's refusal, as an answer has it
+pub numbered_answer : (k r : ℕ) (s : Session) (a : Answer) → k ≡ r → holding r 0 s ≡ a → holding k 0 s ≡ a
+numbered_answer k r s a e h = ap (λ (x : ℕ). holding x 0 s) e ∙ h
+
 -- the same of a list of marks alone, where two ways meet: the one that was written, or the one that came
 module _ (r : ℕ) (s : Session) (l new : List ℕ) where
   pub marks_written : r ≡ 0 → l ≡ new → holding r 0 (with_marks s l) ≡ answer r 0 (with_marks s new) s
@@ -45,6 +51,29 @@ module _ (r : ℕ) (s : Session) (l new : List ℕ) where
 
   pub marks_kept : (r ≡ 0 → ⊥) → l ≡ s.marks → holding r 0 (with_marks s l) ≡ answer r 0 (with_marks s new) s
   marks_kept n e = made_refused r (with_marks s new) s (with_marks s l) n (ap (with_marks s) e)
+
+-- a new session, refused or not: 0 in every field
+new_ends : (r n t post points : ℕ) (v : Points)
+    → holding r 0 (session_of (outcome r n 0) (outcome r t 0) (outcome r post 0) (outcome r points 0) (outcome r v no_points))
+    ≡ answer r 0 (session_of n t post points v) (session_of 0 0 0 0 no_points)
+unfolding outcome
+new_ends zero n t post points v = refl
+new_ends (suc k) n t post points v = refl
+
+module _ (r n t post points : ℕ) (w : Points) where
+  abbrev all : ℕ → ℕ → ℕ → ℕ → Points → Answer
+  all a b c d v = holding r 0 (session_of a b c d v)
+
+  pub new_made : (a b c d : ℕ) (u v : Points) (s : Session) (y : Answer)
+      → y ≡ holding r 0 s → s ≡ session_of a b c d v → a ≡ outcome r n 0 → b ≡ outcome r t 0 → c ≡ outcome r post 0 → d ≡ outcome r points 0
+      → v ≡ outcome r u no_points → u ≡ as_many_of points w → r ≡ first (session_tests n t post points w) → y ≡ created n t post points w
+  unfolding created
+  new_made a b c d u v s y ey es ea eb ec ed ev eu er =
+      ey ∙ ap (holding r 0) es ∙ ap (λ (k : ℕ). all k b c d v) ea ∙ ap (λ (k : ℕ). all (outcome r n 0) k c d v) eb
+      ∙ ap (λ (k : ℕ). all (outcome r n 0) (outcome r t 0) k d v) ec ∙ ap (λ (k : ℕ). all (outcome r n 0) (outcome r t 0) (outcome r post 0) k v) ed
+      ∙ ap (all (outcome r n 0) (outcome r t 0) (outcome r post 0) (outcome r points 0)) (ev ∙ ap (λ (k : Points). outcome r k no_points) eu)
+      ∙ new_ends r n t post points (as_many_of points w)
+      ∙ ap (λ (k : ℕ). answer k 0 (session_of n t post points (as_many_of points w)) (session_of 0 0 0 0 no_points)) er
 
 -- a last method that is called with no refusal: what is so may be gone by, and the session is the new one
 pub allowed_anyhow : (what : Type 0) → what → Allows 0 what

@@ -1,18 +1,20 @@
 -- What holds where the shared checks refuse nothing.
-use Prim.Native.Nat.{ℕ, zero, suc, ◌≤◌}
-use mathlib.Core.Path.{◌≡◌, refl, sym, ◌∙◌}
-use mathlib.Core.Bool.{false}
+use Prim.Native.Nat.{ℕ, zero, suc, ◌*◌, ◌≤◌, ◌<◌}
+use mathlib.Core.Path.{◌≡◌, refl, sym, ◌∙◌, ap}
+use mathlib.Core.Bool.{Bool, false}
 use mathlib.Core.List.{List, [], ◌∷◌}
 use native.Mathlib.Nat.{mul-le-mul_right, pos_of_ne-zero}
 use native.Mathlib.Omega.{arith}
 use borrow.Author.Tests.{ltb-false, eqb-false}
 use lib.Dec.{eqb}
+use lib.ListN.{length, take, drop_of_length-le}
+use lib.Seq.{take-nil}
 use Rattle.shape.specs.declared.Shape.{Shape}
 use Rattle.shape.specs.declared.Points.{Points}
 use Rattle.shape.specs.Bounds.{last_row_at, last_triple}
 use Rattle.shape.specs.Lengths.{shape, Valid, row_length, rows_length}
 use Rattle.refusal.specs.Refusal.{◌when◌, first, or_else, AllFail}
-use Rattle.refusal.specs.Conditions.{posts_tests, bad_points, outside, wrong_length, beyond}
+use Rattle.refusal.specs.Conditions.{posts_tests, bad_points, outside, wrong_length, beyond, any_beyond}
 use Rattle.refusal.proofs.Laws.{or_false, inside, equal, all_fail, first_join}
 use Rattle.refusal.proofs.Endings.{or_else_first}
 use Rattle.refusal.proofs.Elements.{below_p}
@@ -21,7 +23,8 @@ use Rattle.refusal.proofs.Ranges.{posts_valid, points_good}
 use Rattle.session.specs.declared.Session.{Session}
 use Rattle.session.specs.Sessions.{points_of, shape_of, session_tests}
 use Rattle.session.specs.Checks.{frame_tests, no_row, no_triple}
-use Rattle.session.specs.Between.{Framed, RowIn, TripleIn}
+use Rattle.session.specs.Rows.{row_at}
+use Rattle.session.specs.Between.{Sized, Framed, RowIn, TripleIn}
 
 pub framed : (s : Session) (rows : List ℕ) → AllFail (frame_tests s rows) → Framed s rows
 framed s rows h =
@@ -86,3 +89,16 @@ module _ (s : Session) (rows : List ℕ) (r : ℕ) (e : r ≡ first (session_tes
     frame_sized w q ew eq =
         went_on (session_tests s.n s.t s.post s.points (points_of s)) (5 when wrong_length rows (rows_length (shape_of s)) ∷ []) tt r e q z
         (rw (ew, h) at eq)
+
+eight : Bool → ℕ
+eight b = first (8 when b ∷ [])
+
+-- past the last row there is none
+pub no_row_none : (s : Shape) (rows : List ℕ) (r : ℕ) → Sized s rows → last_row_at < r
+    → 0 ≡ first (8 when any_beyond (row_at (row_length s) rows r) ∷ [])
+unfolding any_beyond eight
+no_row_none s rows r z h =
+    let w = row_length s in
+    let k : rows_length s ≤ r * w = mul-le-mul_right w h in
+    let e : length rows ≤ r * w = omega (arith, z.length_is) in
+    sym (ap (λ (l : List ℕ). eight (any_beyond (take w l))) (drop_of_length-le rows e) ∙ ap (λ (l : List ℕ). eight (any_beyond l)) (take-nil w))

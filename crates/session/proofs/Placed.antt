@@ -11,8 +11,8 @@ use Rattle.lists.proofs.Parts.{part_length, length_put, part_after}
 use Rattle.refusal.proofs.Laws.{equal}
 use Rattle.session.specs.declared.Session.{Session}
 use Rattle.session.specs.Sessions.{mark}
-use Rattle.session.specs.Rows.{row_at, with_row, combined, plus_sums}
-use Rattle.session.specs.Places.{Fields, RowPlaces, WrittenPlaces, Combined, Raised, Places}
+use Rattle.session.specs.Rows.{with_row, combined, plus_sums}
+use Rattle.session.specs.Places.{Fields, RowPlaces, WrittenPlaces, Raised, Places}
 
 fields_placed : (s : Session) (r : ℕ) → Fields s r
 fields_placed s r = record {

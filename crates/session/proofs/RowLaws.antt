@@ -6,7 +6,7 @@ use mathlib.Core.List.{List, ◌++◌, map}
 use native.Mathlib.Nat.{add-mul, suc-mul, mul-le-mul_right, add-sub_cancel_left}
 use native.Mathlib.Decide.{dec_le}
 use native.Mathlib.Omega.{arith}
-use lib.ListN.{length, take, drop, length-append, length-map, take-append-drop}
+use lib.ListN.{length, take, drop}
 use lib.Seq.{take_at, drop_at, take-take, take-add, drop-drop, length-take-le}
 use borrow.Rule.Slice.PartMut.{put_mid}
 use mir.Syntax.{w64}

@@ -5,7 +5,6 @@ use Rattle.field.specs.Arithmetic.{sum, product}
 use Rattle.refusal.specs.Conditions.{outside}
 use Rattle.callers.specs.Sets.{shared}
 use Rattle.session.specs.declared.Session.{Session}
-use Rattle.session.specs.declared.Answer.{Answer}
 use Rattle.session.specs.Sessions.{mark, factor_a_of, factor_b_of, opened_a_of, opened_b_of, barred_from, with_barred, marked, remembering, recalling, sharing, holding}
 use Rattle.session.specs.Checks.{wrong_mark_of}
 use Rattle.session.specs.Rows.{row_at, with_row, combined, plus_sums}

@@ -1,5 +1,5 @@
 -- Document 01, "Field, posts, rows": what a session remembers, and a new one.
-use Rattle.std.specs.Prelude.{ℕ, ◌+◌, Bool, true, false, cond, ◌||◌, List, [], ◌∷◌, ◌++◌, eqb, get_or, set, replicate}
+use Rattle.std.specs.Prelude.{ℕ, ◌+◌, Bool, cond, ◌||◌, List, [], ◌∷◌, ◌++◌, eqb, get_or, set, replicate}
 use Rattle.shape.specs.declared.Shape.{Shape}
 use Rattle.shape.specs.declared.Points.{Points}
 use Rattle.shape.specs.Bounds.{row_count_of, most_points}

@@ -1,7 +1,9 @@
-// The checks that calls on a session share. Each gives its refusal, or 0; a call joins them in the order of their numbers.
+// The checks that calls on a session share; a call joins them in the order of their numbers.
 ghost use Rattle.std.specs.Prelude.{◌≡◌, ◌≤◌, [], ◌∷◌};
 ghost use Rattle.refusal.specs.Refusal.{first, ◌when◌};
+ghost use Rattle.refusal.specs.Numbers.{refused};
 ghost use Rattle.refusal.specs.Conditions.{any_beyond};
+ghost use Rattle.shape.specs.Marks.{mark_number};
 ghost use Rattle.session.specs.Sessions.{mark_in, session_tests};
 ghost use Rattle.shape.specs.Bounds.{last_triple};
 ghost use Rattle.shape.specs.Lengths.{row_length};
@@ -10,90 +12,89 @@ ghost use Rattle.session.specs.Checks.{frame_tests, no_row, no_triple, wrong_mar
 ghost use Rattle.session.specs.Between.{Sized};
 
 use crate::{Session, rows};
-use shape::{Points, Shape};
+use refusal::Refusal;
+use shape::{Mark, Points, Shape};
 
 // 1 to 4, of a session's settings.
-pub fn settings(n: usize, t: usize, post: usize, points: usize, w: Points) -> u8
-    ensures { result ≡ first (session_tests n t post points w) }
+pub fn settings(n: usize, t: usize, post: usize, points: usize, w: Points) -> Result<(), Refusal>
+    ensures { refused result ≡ first (session_tests n t post points w) }
 {
-    let posts = refusal::posts(n, t);
-    if posts != 0 {
-        return posts;
-    }
-    let own = refusal::post(n, post);
-    if own != 0 {
-        return own;
-    }
+    refusal::posts(n, t)?;
+    refusal::post(n, post)?;
     refusal::points(points, w)
 }
 
 // 6, of a row.
-pub fn row(row: usize) -> u8
-    ensures { result ≡ first (6 when no_row row ∷ []) }
+pub fn row(row: usize) -> Result<(), Refusal>
+    ensures { refused result ≡ first (6 when no_row row ∷ []) }
 {
-    if shape::LAST_ROW < row { 6 } else { 0 }
+    if shape::LAST_ROW < row {
+        return Err(Refusal::NoSuchRow);
+    }
+    Ok(())
 }
 
 // 6, of a triple's first row.
-pub fn triple(row: usize) -> u8
-    ensures { result ≡ first (6 when no_triple row ∷ []) }
+pub fn triple(row: usize) -> Result<(), Refusal>
+    ensures { refused result ≡ first (6 when no_triple row ∷ []) }
 {
-    if shape::LAST_TRIPLE < row { 6 } else { 0 }
+    if shape::LAST_TRIPLE < row {
+        return Err(Refusal::NoSuchRow);
+    }
+    Ok(())
 }
 
 // The mark of a row; 0 for a row that is none. Marks are lent and the session is not handed over: it would be copied for each look.
 fn mark(marks: &[u8], row: usize) -> u8
     ensures { result ≡ mark_in marks.now row }
 {
-    if row < marks.len() {
-        marks[row]
-    } else {
-        shape::EMPTY
+    match marks.get(row) {
+        Some(&mark) => mark,
+        None => Mark::Empty as u8,
     }
 }
 
 // 7, of the mark that a call needs on a row.
-pub fn wrong_mark(marks: &[u8], row: usize, need: u8) -> u8
-    ensures { result ≡ first (7 when wrong_mark_in marks.now row need ∷ []) }
+pub fn wrong_mark(marks: &[u8], row: usize, need: Mark) -> Result<(), Refusal>
+    ensures { refused result ≡ first (7 when wrong_mark_in marks.now row (mark_number need) ∷ []) }
 {
-    if mark(marks, row) == need { 0 } else { 7 }
+    if mark(marks, row) != need.number() {
+        return Err(Refusal::WrongMark);
+    }
+    Ok(())
 }
 
 // 7, of the marks that a call needs on a triple's three rows.
-pub fn wrong_marks(marks: &[u8], row: usize, a: u8, b: u8, c: u8) -> u8
+pub fn wrong_marks(marks: &[u8], row: usize, a: Mark, b: Mark, c: Mark) -> Result<(), Refusal>
     requires { row ≤ last_triple }
-    ensures { result ≡ first (wrong_marks_of marks.now row a b c) }
+    ensures { refused result ≡ first (wrong_marks_of marks.now row (mark_number a) (mark_number b) (mark_number c)) }
 {
-    refusal::or_else(
-        wrong_mark(marks, row, a),
-        refusal::or_else(wrong_mark(marks, row + 1, b), wrong_mark(marks, row + 2, c)),
-    )
+    wrong_mark(marks, row, a)
+        .and(wrong_mark(marks, row + 1, b))
+        .and(wrong_mark(marks, row + 2, c))
 }
 
 // 8, of every number of a row.
-pub fn numbers(shape: Shape, rows: &[u32], row: usize) -> u8
+#[tactic(auto, using(crate::proofs::Passed::no_row_none, crate::proofs::Passed::row_below))]
+pub fn numbers(shape: Shape, rows: &[u32], row: usize) -> Result<(), Refusal>
     requires { Sized shape rows.now }
-    ensures { result ≡ first (8 when any_beyond (row_at (row_length shape) rows.now row) ∷ []) }
+    ensures { refused result ≡ first (8 when any_beyond (row_at (row_length shape) rows.now row) ∷ []) }
 {
-    if shape::LAST_ROW < row {
-        return 0;
+    if row <= shape::LAST_ROW {
+        refusal::numbers(rows::row(shape, rows, row))
+    } else {
+        Ok(())
     }
-    refusal::numbers(rows::row(shape, rows, row))
 }
 
 impl Session {
     // 1 to 4 of the session, whose fields may hold anything, and 5 of its list of rows.
-    pub fn frame(self, rows: &[u32]) -> u8
-        ensures { result ≡ first (frame_tests self rows.now) }
+    #[tactic(auto, using(crate::proofs::Passed::frame_stopped, crate::proofs::Passed::frame_valid, crate::proofs::Passed::frame_sized, refusal::proofs::Checks::not_zero))]
+    pub fn frame(self, rows: &[u32]) -> Result<(), Refusal>
+        ensures { refused result ≡ first (frame_tests self rows.now) }
     {
-        let w = Points {
-            first: self.first,
-            second: self.second,
-        };
-        let refusal = settings(self.n, self.t, self.post, self.points, w);
-        if refusal != 0 {
-            return refusal;
-        }
+        let w = self.check_points();
+        settings(self.n, self.t, self.post, self.points, w)?;
         let shape = self.shape();
         refusal::size(rows, shape.rows_len())
     }

@@ -8,11 +8,14 @@ pub mod rows;
 
 ghost use Rattle.std.specs.Prelude.{◌≡◌, ◌≤◌, ◌<◌};
 ghost use Rattle.shape.specs.Bounds.{last_row_at, last_triple};
+ghost use Rattle.shape.specs.Marks.{mark_number};
 ghost use Rattle.refusal.specs.Refusal.{outcome};
-ghost use Rattle.session.specs.Sessions.{as_many_of, no_points, shape_of, party_of, marked, marked_triple, masked_triple, collected_triple, session_of, holding, answer, created, finished_triple};
+ghost use Rattle.refusal.specs.Numbers.{refused};
+ghost use Rattle.session.specs.Sessions.{as_many_of, points_of, shape_of, party_of, marked, marked_triple, masked_triple, collected_triple, session_of, holding, answer, created, finished_triple};
 ghost use Rattle.session.specs.Between.{Allows};
 
-use shape::{Points, Shape};
+use refusal::Refusal;
+use shape::{Mark, Points, Shape};
 
 // Who opens a number: the station's shape, the post's own number and its check points.
 #[derive(Clone, Copy)]
@@ -68,24 +71,15 @@ pub fn as_many(points: usize, w: Points) -> Points
     }
 }
 
-// A number of a new session: 0 where the call is refused.
-fn unless(refusal: u8, number: usize) -> usize
-    ensures { result ≡ outcome refusal number 0 }
+// A part of a new session: nothing where the call is refused.
+#[tactic(auto, using(refusal::proofs::Checks::kept_ok, refusal::proofs::Checks::kept_err))]
+fn unless<T: Copy>(checked: Result<(), Refusal>, part: T, none: T) -> T
+    ensures { result ≡ outcome (refused checked) part none }
 {
-    if refusal != 0 { 0 } else { number }
-}
-
-// The same of the check points.
-fn points_unless(refusal: u8, w: Points) -> Points
-    ensures { result ≡ outcome refusal w no_points }
-{
-    if refusal != 0 {
-        return Points {
-            first: 0,
-            second: 0,
-        };
+    match checked {
+        Ok(()) => part,
+        Err(_) => none,
     }
-    w
 }
 
 impl Session {
@@ -100,7 +94,7 @@ impl Session {
             points,
             first: w.first,
             second: w.second,
-            marks: [shape::EMPTY; shape::ROWS],
+            marks: [Mark::Empty as u8; shape::ROWS],
             factor_a: [0; shape::ROWS],
             factor_b: [0; shape::ROWS],
             y_a: [0; shape::ROWS],
@@ -113,16 +107,20 @@ impl Session {
     pub fn new(n: usize, t: usize, post: usize, points: usize, w: Points) -> Answer
         ensures { result ≡ created n t post points w }
     {
-        let refusal = checks::settings(n, t, post, points, w);
+        let checked = checks::settings(n, t, post, points, w);
+        let none = Points {
+            first: 0,
+            second: 0,
+        };
         // One end, refused or not, so that the session is made in its place.
         Session::empty(
-            unless(refusal, n),
-            unless(refusal, t),
-            unless(refusal, post),
-            unless(refusal, points),
-            points_unless(refusal, as_many(points, w)),
+            unless(checked, n, 0),
+            unless(checked, t, 0),
+            unless(checked, post, 0),
+            unless(checked, points, 0),
+            unless(checked, as_many(points, w), none),
         )
-        .refuse(refusal)
+        .answer(checked)
     }
 
     pub fn shape(self) -> Shape
@@ -135,27 +133,31 @@ impl Session {
         }
     }
 
-    pub fn party(self) -> Party
-        ensures { result ≡ party_of self }
+    pub fn check_points(self) -> Points
+        ensures { result ≡ points_of self }
     {
-        let shape = self.shape();
-        let points = Points {
+        Points {
             first: self.first,
             second: self.second,
-        };
-        Party {
-            shape,
-            post: self.post,
-            points,
         }
     }
 
-    // A refused call hands the session back as it came.
-    pub fn refuse(self, refusal: u8) -> Answer
-        ensures { result ≡ holding refusal 0 self }
+    pub fn party(self) -> Party
+        ensures { result ≡ party_of self }
+    {
+        Party {
+            shape: self.shape(),
+            post: self.post,
+            points: self.check_points(),
+        }
+    }
+
+    // How a call ends that changes nothing of the session: refused or not, it goes back as it came.
+    pub fn answer(self, checked: Result<(), Refusal>) -> Answer
+        ensures { result ≡ holding (refused checked) 0 self }
     {
         Answer {
-            refusal,
+            refusal: refusal::number_of(checked),
             value: 0,
             session: self,
         }
@@ -175,16 +177,16 @@ impl Session {
     // How a call ends that marks a row: refused, the session as it came; else with the mark. One method for both, called once. The list
     // that changes is copied, to be changed; the rest is copied once, straight into the answer. With `mut self` the whole session would
     // be copied twice: to be changed, and into the answer.
-    pub fn answer_marking(self, refusal: u8, row: usize, mark: u8) -> Answer
-        requires { Allows refusal (row ≤ last_row_at) }
-        ensures { result ≡ answer refusal 0 (marked self row mark) self }
+    pub fn answer_marking(self, checked: Result<(), Refusal>, row: usize, mark: Mark) -> Answer
+        requires { Allows (refused checked) (row ≤ last_row_at) }
+        ensures { result ≡ answer (refused checked) 0 (marked self row (mark_number mark)) self }
     {
         let mut marks = self.marks;
-        if refusal == 0 {
-            marks[row] = mark;
+        if checked.is_ok() {
+            marks[row] = mark.number();
         }
         Answer {
-            refusal,
+            refusal: refusal::number_of(checked),
             value: 0,
             session: Session { marks, ..self },
         }
@@ -193,23 +195,23 @@ impl Session {
     // The same, with other marks on a triple's three rows.
     pub fn answer_marking_triple(
         self,
-        refusal: u8,
+        checked: Result<(), Refusal>,
         first: usize,
-        one: u8,
-        two: u8,
-        three: u8,
+        one: Mark,
+        two: Mark,
+        three: Mark,
     ) -> Answer
-        requires { Allows refusal (first ≤ last_triple) }
-        ensures { result ≡ answer refusal 0 (marked_triple self first one two three) self }
+        requires { Allows (refused checked) (first ≤ last_triple) }
+        ensures { result ≡ answer (refused checked) 0 (marked_triple self first (mark_number one) (mark_number two) (mark_number three)) self }
     {
         let mut marks = self.marks;
-        if refusal == 0 {
-            marks[first] = one;
-            marks[first + 1] = two;
-            marks[first + 2] = three;
+        if checked.is_ok() {
+            marks[first] = one.number();
+            marks[first + 1] = two.number();
+            marks[first + 2] = three.number();
         }
         Answer {
-            refusal,
+            refusal: refusal::number_of(checked),
             value: 0,
             session: Session { marks, ..self },
         }
@@ -217,20 +219,26 @@ impl Session {
 
     // The same, of masks: the triple at `first` remembers the factor rows a and b. Part of its callers: else a session is copied there twice.
     #[inline(always)]
-    pub fn answer_masking(self, refusal: u8, first: usize, a: usize, b: usize) -> Answer
-        requires { Allows refusal (first ≤ last_triple) × Allows refusal (a ≤ last_row_at) × Allows refusal (b ≤ last_row_at) }
-        ensures { result ≡ answer refusal 0 (masked_triple self first a b) self }
+    pub fn answer_masking(
+        self,
+        checked: Result<(), Refusal>,
+        first: usize,
+        a: usize,
+        b: usize,
+    ) -> Answer
+        requires { Allows (refused checked) (first ≤ last_triple) × Allows (refused checked) (a ≤ last_row_at) × Allows (refused checked) (b ≤ last_row_at) }
+        ensures { result ≡ answer (refused checked) 0 (masked_triple self first a b) self }
     {
         let mut marks = self.marks;
         let mut factor_a = self.factor_a;
         let mut factor_b = self.factor_b;
-        if refusal == 0 {
-            marks[first] = shape::MASKED;
+        if checked.is_ok() {
+            marks[first] = Mark::Masked as u8;
             factor_a[first] = a as u8;
             factor_b[first] = b as u8;
         }
         Answer {
-            refusal,
+            refusal: refusal::number_of(checked),
             value: 0,
             session: Session {
                 marks,
@@ -242,20 +250,26 @@ impl Session {
     }
 
     // The same, of a finish's first call: the masks of the triple at `first` were opened to y_a and y_b.
-    pub fn answer_collecting(self, refusal: u8, first: usize, y_a: u32, y_b: u32) -> Answer
-        requires { Allows refusal (first ≤ last_triple) }
-        ensures { result ≡ answer refusal 0 (collected_triple self first y_a y_b) self }
+    pub fn answer_collecting(
+        self,
+        checked: Result<(), Refusal>,
+        first: usize,
+        y_a: u32,
+        y_b: u32,
+    ) -> Answer
+        requires { Allows (refused checked) (first ≤ last_triple) }
+        ensures { result ≡ answer (refused checked) 0 (collected_triple self first y_a y_b) self }
     {
         let mut marks = self.marks;
         let mut opened_a = self.y_a;
         let mut opened_b = self.y_b;
-        if refusal == 0 {
-            marks[first] = shape::COLLECTED;
+        if checked.is_ok() {
+            marks[first] = Mark::Collected as u8;
             opened_a[first] = y_a;
             opened_b[first] = y_b;
         }
         Answer {
-            refusal,
+            refusal: refusal::number_of(checked),
             value: 0,
             session: Session {
                 marks,
@@ -267,24 +281,24 @@ impl Session {
     }
 
     // How a finish's second call ends: the third row bars whom a factor row bars.
-    pub fn answer_multiplying(self, refusal: u8, first: usize) -> Answer
-        requires { Allows refusal (first ≤ last_triple) }
-        ensures { result ≡ answer refusal 0 (finished_triple self first) self }
+    pub fn answer_multiplying(self, checked: Result<(), Refusal>, first: usize) -> Answer
+        requires { Allows (refused checked) (first ≤ last_triple) }
+        ensures { result ≡ answer (refused checked) 0 (finished_triple self first) self }
     {
         let mut marks = self.marks;
         let mut barred = self.barred;
         let factors_a = self.factor_a;
         let factors_b = self.factor_b;
-        if refusal == 0 {
+        if checked.is_ok() {
             let a = factors_a[first] as usize;
             let b = factors_b[first] as usize;
             callers::share(&mut barred, first + 2, a, b);
-            marks[first] = shape::SPENT;
-            marks[first + 1] = shape::SPENT;
-            marks[first + 2] = shape::HELD;
+            marks[first] = Mark::Spent as u8;
+            marks[first + 1] = Mark::Spent as u8;
+            marks[first + 2] = Mark::Held as u8;
         }
         Answer {
-            refusal,
+            refusal: refusal::number_of(checked),
             value: 0,
             session: Session {
                 marks,

@@ -3,7 +3,7 @@ use Prim.Native.Nat.{ℕ, ◌+◌, ◌*◌, ◌-◌}
 use mathlib.Core.Path.{◌≡◌, refl, ap}
 use native.Mathlib.Omega.{arith}
 use Rattle.shape.specs.Lengths.{shape, v_length, row_length, block_length}
-use Rattle.shape.specs.Claims.{KeptLengths, OnePoint, TwoPoints, LengthsInFigures}
+use Rattle.shape.specs.Claims.{OnePoint, TwoPoints, LengthsInFigures}
 
 -- what stands once for each post
 module _ (n t : ℕ) where

@@ -1,6 +1,6 @@
 -- The lengths in figures, with one check point a post and with two; proved in proofs/Figures.antt.
 use Rattle.std.specs.Prelude.{ℕ, ◌+◌, ◌*◌, ◌-◌, ◌≡◌}
-use Rattle.shape.specs.Lengths.{shape, needed, f_length, v_length, checks_length, row_length, rows_length, record_length}
+use Rattle.shape.specs.Lengths.{shape, needed, f_length, checks_length, row_length, rows_length, record_length}
 use Rattle.shape.specs.Lengths.{draw_length, triple_draw_length, packs_length, message_length, masks_length}
 
 -- Whatever the number of points: "f keeps t+1", and so do the accepted posts that an opening needs.

@@ -1,5 +1,7 @@
 -- Document 01, "Field, posts, rows": "Each row has a mark".
 use Rattle.std.specs.Prelude.{ℕ}
+use Rattle.shape.specs.declared.Mark.{Mark}
+use Rattle.shape.specs.declared.Mark.TheVariants.{Empty, Raw, Held, Unused, Further, Masked, Spent, Collected}
 
 -- "0 empty; 1 raw (random, not dealt); 2 held"
 abbrev pub empty : ℕ
@@ -36,3 +38,14 @@ absent = 0
 
 abbrev pub present : ℕ
 present = 1
+
+-- The number of a mark that code names.
+abbrev pub mark_number : Mark → ℕ
+mark_number Empty = empty
+mark_number Raw = raw
+mark_number Held = held
+mark_number Unused = unused
+mark_number Further = further
+mark_number Masked = masked
+mark_number Spent = spent
+mark_number Collected = collected

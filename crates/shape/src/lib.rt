@@ -3,6 +3,7 @@
 #![tactic(auto)]
 
 ghost use Rattle.std.specs.Prelude.{◌≡◌};
+ghost use Rattle.shape.specs.Marks.{mark_number};
 ghost use Rattle.shape.specs.Lengths.{needed, f_length, v_length, checks_length, checks_at_of, sums_at_of, row_length, triple_length};
 ghost use Rattle.shape.specs.Lengths.{rows_length, block_length, record_length, draw_length, triple_draw_length, packs_length, masks_length, Valid};
 
@@ -35,22 +36,21 @@ pub const ROW_OF_VERY_FEW: usize = 5 * VERY_FEW_POSTS - 1;
 
 pub const V_OF_VERY_FEW: usize = 2 * VERY_FEW_POSTS - 1;
 
-// The marks of rows.
-pub const EMPTY: u8 = 0;
-
-pub const RAW: u8 = 1;
-
-pub const HELD: u8 = 2;
-// of an unused triple: its first row, and the other two
-pub const UNUSED: u8 = 3;
-
-pub const FURTHER: u8 = 4;
-// of a triple's first row, once its masks were sent; of the rows that a product used up
-pub const MASKED: u8 = 5;
-
-pub const SPENT: u8 = 6;
-// of a triple's first row, once its masks were opened
-pub const COLLECTED: u8 = 7;
+// The marks of rows, by the documents' numbers.
+#[derive(Clone, Copy, PartialEq, Eq)]
+pub enum Mark {
+    Empty = 0,
+    Raw = 1,
+    Held = 2,
+    // of an unused triple: its first row, and the other two
+    Unused = 3,
+    Further = 4,
+    // of a triple's first row, once its masks were sent; of the rows that a product used up
+    Masked = 5,
+    Spent = 6,
+    // of a triple's first row, once its masks were opened
+    Collected = 7,
+}
 
 // The marks of a record's blocks.
 pub const ABSENT: u32 = 0;
@@ -70,6 +70,14 @@ pub struct Shape {
 pub struct Points {
     pub first: u32,
     pub second: u32,
+}
+
+impl Mark {
+    pub fn number(self) -> u8
+        ensures { result ≡ mark_number self }
+    {
+        self as u8
+    }
 }
 
 impl Shape {

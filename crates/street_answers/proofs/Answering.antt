@@ -1,21 +1,20 @@
 -- An answer laid into a part of bytes: the number, then the two fields and the line feed, by fields or five bytes at once.
 use Prim.Native.Nat.{ℕ, zero, suc, ◌+◌, ◌-◌, ◌≤◌, ◌<◌, ◌^◌}
 use mathlib.Core.Path.{◌≡◌, refl, ap, sym, ◌∙◌}
-use mathlib.Core.List.{List, [], ◌∷◌}
+use mathlib.Core.List.{List, [], ◌∷◌, append-nil}
 use native.Mathlib.Nat.{add-sub_cancel_left}
 use native.Mathlib.Omega.{arith}
 use borrow.Rule.Slice.PartMut.{put_mid}
-use mir.Syntax.{w8, w64}
+use mir.Syntax.{w64}
 use mir.Val.{Fits}
-use lib.ListN.{length, set, take, drop, length-append, length-drop, length-set}
-use lib.Seq.{length-take-le}
+use lib.ListN.{length, set, length-append, length-set}
 use Rattle.decimal.specs.Numeral.{last_digits, size_within}
 use Rattle.decimal.proofs.Digits.{length_digits}
 use Rattle.decimal.proofs.Sizes.{size_le}
 use Rattle.csv_fields.specs.Fields.{fields, overwrite}
 use Rattle.csv_fields.proofs.Overwriting.{overwrite_part, overwrite_byte, overwrite_twice, length_fields_le}
 use Rattle.street_answers.specs.Between.{end_text, longest_end}
-use Rattle.street_answers.specs.Text.{long_size_of, long_numeral, answer_text, longest_answer}
+use Rattle.street_answers.specs.Text.{long_size_of, long_numeral, answer_text, print_text, longest_print}
 
 -- ---- a number
 module _ (l : List ℕ) (at k x : ℕ) (h : at + length (long_numeral x) ≤ length l) (e : k ≡ long_size_of x) where
@@ -27,16 +26,6 @@ module _ (l : List ℕ) (at k x : ℕ) (h : at + length (long_numeral x) ≤ len
 
   pub number_room : at + k ≤ length l
   number_room = omega (arith, size)
-
-  pub number_end : at + k ≡ at + length (long_numeral x)
-  number_end = omega (arith, size)
-
-  pub number_put : (ys : List ℕ) → ys ≡ last_digits (length (take (at + k - at) (drop at l))) x → put_mid at (at + k - at) l ys ≡ overwrite at (long_numeral x) l
-  number_put ys d =
-      let c : at + k - at ≡ k = add-sub_cancel_left at k in
-      let r : k ≤ length (drop at l) = omega (arith, length-drop at l, size) in
-      let q : ys ≡ long_numeral x = d ∙ rw (c, length-take-le k (drop at l) r, e) in
-      rw (c, q) (overwrite_part l (long_numeral x) at k size)
 
 -- ---- what stands behind the number, field by field
 module _ (refusal value at : ℕ) (o : List ℕ) (h : at + longest_end ≤ length o) where
@@ -52,9 +41,6 @@ module _ (refusal value at : ℕ) (o : List ℕ) (h : at + longest_end ≤ lengt
   module _ (o₁ : List ℕ) (e : ℕ) (p : e ≡ at + length both) (k : length o₁ ≡ length o) where
     pub end_feed : e < length o₁
     end_feed = omega (arith, both_length)
-
-    pub end_fits : length o < 2 ^ 64 → Fits w64 (e + 1)
-    end_fits b = omega (arith, both_length)
 
     pub end_behind : e + 1 ≡ at + length (end_text refusal value)
     end_behind = omega (arith, length-append both (10 ∷ []))
@@ -81,18 +67,6 @@ one_digit (suc (suc (suc (suc (suc (suc (suc (suc (suc zero))))))))) h = refl
 one_digit (suc (suc (suc (suc (suc (suc (suc (suc (suc (suc r)))))))))) h = absurd (omega arith)
 
 module _ (refusal at : ℕ) (o : List ℕ) (h : at + longest_end ≤ length o) (d : refusal ≤ 9) where
-  pub digit_fits : Fits w8 (48 + refusal)
-  digit_fits = omega arith
-
-  pub digit_end_fits : length o < 2 ^ 64 → Fits w64 (at + 5)
-  digit_end_fits b = omega arith
-
-  pub digit_room : at + 5 ≤ length o
-  digit_room = omega arith
-
-  pub digit_size : 5 ≡ length (take (at + 5 - at) (drop at o))
-  digit_size = rw (add-sub_cancel_left at 5) (sym (length-take-le 5 (drop at o) (omega (arith, length-drop at o))))
-
   pub digit_end : at + 5 ≡ at + length (end_text refusal 0)
   digit_end = ap (λ (w : List ℕ). at + length w) (one_digit refusal d)
 
@@ -102,16 +76,8 @@ module _ (refusal at : ℕ) (o : List ℕ) (h : at + longest_end ≤ length o) (
       rw (add-sub_cancel_left at 5, q) (overwrite_part o (44 ∷ (48 + refusal) ∷ 44 ∷ 48 ∷ 10 ∷ []) at 5 refl)
       ∙ ap (λ (w : List ℕ). overwrite at w o) (one_digit refusal d)
 
--- ---- either
-module _ (refusal value at r : ℕ) (o o' : List ℕ) (z : value ≡ 0) where
-  pub either_end : r ≡ at + length (end_text refusal 0) → r ≡ at + length (end_text refusal value)
-  either_end q = rw z q
-
-  pub either_put : o' ≡ overwrite at (end_text refusal 0) o → o' ≡ overwrite at (end_text refusal value) o
-  either_put q = rw z q
-
 -- ---- an answer
-module _ (number refusal value at : ℕ) (o : List ℕ) (h : at + longest_answer ≤ length o) where
+module _ (number refusal value at : ℕ) (o : List ℕ) (h : at + longest_print ≤ length o) where
   abbrev digits : List ℕ
   digits = long_numeral number
 
@@ -125,10 +91,16 @@ module _ (number refusal value at : ℕ) (o : List ℕ) (h : at + longest_answer
     pub answer_room : q + longest_end ≤ length o₁
     answer_room = omega (arith, digits_length)
 
+    alone : answer_text number refusal value ≡ print_text number refusal value []
+    alone = sym (append-nil (answer_text number refusal value))
+
     module _ (o₂ : List ℕ) (e : ℕ) where
-      pub answer_end : e ≡ q + length (end_text refusal value) → e ≡ at + length (answer_text number refusal value)
-      answer_end w = omega (arith, length-append digits (end_text refusal value))
+      pub answer_end : e ≡ q + length (end_text refusal value) → e ≡ at + length (print_text number refusal value [])
+      answer_end w =
+          let r : e ≡ at + length (answer_text number refusal value) = omega (arith, length-append digits (end_text refusal value)) in
+          r ∙ ap (λ (z : List ℕ). at + length z) alone
 
       pub answer_put : o₁ ≡ overwrite at digits o → o₂ ≡ overwrite q (end_text refusal value) o₁
-          → o₂ ≡ overwrite at (answer_text number refusal value) o
-      answer_put e₁ e₂ = e₂ ∙ rw (p, e₁) (overwrite_twice o digits (end_text refusal value) at (omega arith))
+          → o₂ ≡ overwrite at (print_text number refusal value []) o
+      answer_put e₁ e₂ =
+          e₂ ∙ rw (p, e₁) (overwrite_twice o digits (end_text refusal value) at (omega arith)) ∙ ap (λ (z : List ℕ). overwrite at z o) alone

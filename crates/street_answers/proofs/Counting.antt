@@ -1,11 +1,9 @@
 -- How many digits a number of 64 bits has.
-use Prim.Native.Nat.{ℕ, suc, ◌+◌, ◌-◌, ◌/◌, ◌≤◌, ◌<◌, ◌^◌}
+use Prim.Native.Nat.{ℕ, suc, ◌+◌, ◌-◌, ◌/◌, ◌≤◌, ◌<◌}
 use mathlib.Core.Path.{◌≡◌, refl, ap}
 use mathlib.Core.Bool.{Bool, true, false}
 use native.Mathlib.Omega.{arith}
 use borrow.Author.Tests.{le-ltb, ltb-true, ltb-false}
-use mir.Syntax.{w64}
-use mir.Val.{Fits}
 use lib.Dec.{ltb}
 use Rattle.decimal.specs.Numeral.{tens, size_within}
 use Rattle.decimal.proofs.Sizes.{size_one}
@@ -18,9 +16,6 @@ pub record Counted (x k y : ℕ) : Type 0 where
   pub small : y < tens (21 - k)
   pub says : k + size_within (20 - k) y ≡ suc (long_size_of x)
 
-pub counted_start : (x : ℕ) → x < 2 ^ 64 → Counted x 1 x
-counted_start x h = record { some = omega arith; few = omega arith; small = omega arith; says = omega arith }
-
 module _ (x k y : ℕ) (inv : Counted x k y) where
   counted_few : 10 ≤ y → k < 20
   counted_few h = go (ltb k 20) refl
@@ -28,9 +23,6 @@ module _ (x k y : ℕ) (inv : Counted x k y) where
       go : (t : Bool) → ltb k 20 ≡ t → k < 20
       go true e = ltb-true k 20 e
       go false e = let q : 21 - k ≡ 1 = omega (arith, inv.few, ltb-false k 20 e) in absurd (omega (arith, inv.small, ap tens q))
-
-  pub counted_fits : 10 ≤ y → Fits w64 (k + 1)
-  counted_fits h = omega (arith, inv.few)
 
   pub counted_more : 10 ≤ y → Counted x (k + 1) (y / 10)
   unfolding size_within

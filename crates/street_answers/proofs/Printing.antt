@@ -1,12 +1,10 @@
 -- What is printed for a line, behind what was printed before: it has room, and the rest stays.
-use Prim.Native.Nat.{ℕ, ◌+◌, ◌-◌, ◌≤◌, ◌<◌, ◌^◌}
+use Prim.Native.Nat.{ℕ, ◌+◌, ◌-◌, ◌≤◌}
 use mathlib.Core.Path.{◌≡◌, ap, sym, ◌∙◌}
 use mathlib.Core.List.{List, [], ◌∷◌, ◌++◌, append_assoc, append-nil}
 use native.Mathlib.Nat.{zero-add}
 use native.Mathlib.Omega.{arith}
 use borrow.Rule.Slice.PartMut.{put_mid}
-use mir.Syntax.{w64}
-use mir.Val.{Fits}
 use lib.ListN.{length, take, drop, length-append, length-drop, take-append-drop}
 use lib.Seq.{take_at, drop_at, drop-drop, drop-append-le, length-take-le}
 use Rattle.decimal.proofs.Digits.{length_digits}
@@ -33,17 +31,6 @@ answer_length number refusal value =
     let rest : List ℕ = fields (refusal ∷ value ∷ []) in
     omega (arith, length-append (long_numeral number) (rest ++ (10 ∷ [])), length-append rest (10 ∷ []), length_digits (long_size_of number) number, size_le 19 number, length_fields_le (refusal ∷ value ∷ []))
 
--- ---- nothing behind it
-module _ (at number refusal value r : ℕ) where
-  pub plain_room : (out : List ℕ) → at + longest_print ≤ length out → at + longest_answer ≤ length out
-  plain_room out h = omega arith
-
-  pub plain_end : r ≡ at + length (answer_text number refusal value) → r ≡ at + length (print_text number refusal value [])
-  plain_end q = q ∙ ap (λ (w : List ℕ). at + length w) (sym (append-nil (answer_text number refusal value)))
-
-  pub plain_put : (out out' : List ℕ) → out' ≡ overwrite at (answer_text number refusal value) out → out' ≡ overwrite at (print_text number refusal value []) out
-  plain_put out out' q = q ∙ ap (λ (w : List ℕ). overwrite at w out) (sym (append-nil (answer_text number refusal value)))
-
 -- ---- the M line of an `X`, written into a part of the list that has room for it
 part_laid : (l w ys : List ℕ) (at k : ℕ) → at + k ≤ length l → length w ≤ k → ys ≡ overwrite 0 w (take k (drop at l)) → put_mid at k l ys ≡ overwrite at w l
 part_laid l w ys at k h m e =
@@ -66,30 +53,32 @@ module _ (first post : ℕ) (out xs : List ℕ) (at : ℕ) (h : at + told_room �
     width : end - at ≡ told_room
     width = omega arith
 
-    pub masks_in : end ≤ length out
-    masks_in = omega arith
-
     pub masks_room : length line ≤ length (take (end - at) (drop at out))
     masks_room = rw width (omega (arith, line_short, length-take-le told_room (drop at out) (omega (arith, length-drop at out))))
 
     pub masks_put : (ys : List ℕ) → ys ≡ overwrite 0 line (take (end - at) (drop at out)) → put_mid at (end - at) out ys ≡ overwrite at line out
     masks_put ys q = part_laid out line ys at (end - at) (omega (arith, width)) (omega (arith, width, line_short)) q
 
-  pub masks_fits : (size : ℕ) → size ≡ length line → length out < 2 ^ 64 → Fits w64 (at + size)
-  masks_fits size q b = omega (arith, line_short)
-
   pub masks_end : (size : ℕ) → size ≡ length line → at + size ≡ at + length line
   masks_end size q = ap (λ (k : ℕ). at + k) q
 
 -- behind its answer
-module _ (out : List ℕ) (at number : ℕ) (h : at + longest_print ≤ length out) where
-  pub print_room : (out₁ : List ℕ) (behind : ℕ) → behind ≡ at + length (answer_text number 0 0) → length out₁ ≡ length out → behind + told_room ≤ length out₁
-  print_room out₁ behind e k = omega (arith, answer_length number 0 0)
+module _ (out : List ℕ) (at number : ℕ) (h : at + longest_print ≤ length out) (behind : ℕ)
+    (e : behind ≡ at + length (print_text number 0 0 [])) where
+  alone : print_text number 0 0 [] ≡ answer_text number 0 0
+  alone = append-nil (answer_text number 0 0)
 
-  pub print_end : (line : List ℕ) (behind r : ℕ) → behind ≡ at + length (answer_text number 0 0) → r ≡ behind + length line
-      → r ≡ at + length (print_text number 0 0 line)
-  print_end line behind r e q = omega (arith, length-append (answer_text number 0 0) line)
+  behind_is : behind ≡ at + length (answer_text number 0 0)
+  behind_is = e ∙ ap (λ (w : List ℕ). at + length w) alone
 
-  pub print_put : (line out₁ out' : List ℕ) (behind : ℕ) → behind ≡ at + length (answer_text number 0 0) → out₁ ≡ overwrite at (answer_text number 0 0) out
+  pub print_room : (out₁ : List ℕ) → length out₁ ≡ length out → behind + told_room ≤ length out₁
+  print_room out₁ k = omega (arith, answer_length number 0 0, behind_is)
+
+  pub print_end : (line : List ℕ) (r : ℕ) → r ≡ behind + length line → r ≡ at + length (print_text number 0 0 line)
+  print_end line r q = omega (arith, length-append (answer_text number 0 0) line, behind_is)
+
+  pub print_put : (line out₁ out' : List ℕ) → out₁ ≡ overwrite at (print_text number 0 0 []) out
       → out' ≡ overwrite behind line out₁ → out' ≡ overwrite at (print_text number 0 0 line) out
-  print_put line out₁ out' behind e o q = q ∙ rw (e, o) (overwrite_twice out (answer_text number 0 0) line at (omega arith))
+  print_put line out₁ out' o q =
+      let o' : out₁ ≡ overwrite at (answer_text number 0 0) out = o ∙ ap (λ (w : List ℕ). overwrite at w out) alone in
+      q ∙ rw (behind_is, o') (overwrite_twice out (answer_text number 0 0) line at (omega arith))

@@ -22,13 +22,13 @@ pub fn header() -> [u8; 19]
 fn long_size(x: u64) -> usize
     ensures { result ≡ long_size_of x }
 {
-    let mut k: usize = 1;
-    let mut y = x;
-    while 10 <= y {
-        y = y / 10;
-        k += 1;
+    let mut count = 1;
+    let mut front = x;
+    while 10 <= front {
+        front /= 10;
+        count += 1;
     }
-    k
+    count
 }
 
 // A number from a position on; the position behind.
@@ -46,8 +46,7 @@ fn put_fields(out: &mut [u8], at: usize, refusal: u8, value: u32) -> usize
     requires { at + longest_end ≤ length out.old }
     ensures { (result ≡ at + length (end_text refusal value)) × (out.new ≡ overwrite at (end_text refusal value) out.old) }
 {
-    let list = [refusal as u32, value];
-    let end = csv_fields::put_fields(out, at, &list);
+    let end = csv_fields::put_fields(out, at, &[refusal as u32, value]);
     out[end] = b'\n';
     end + 1
 }
@@ -58,8 +57,8 @@ fn put_digit(out: &mut [u8], at: usize, refusal: u8) -> usize
     ensures { (result ≡ at + length (end_text refusal 0)) × (out.new ≡ overwrite at (end_text refusal 0) out.old) }
 {
     let text = [b',', b'0' + refusal, b',', b'0', b'\n'];
-    let end = at + 5;
-    street_store::copy_bytes(&text, &mut out[at..end]);
+    let end = at + text.len();
+    lists::copy(&text, &mut out[at..end]);
     end
 }
 
@@ -68,23 +67,11 @@ fn put_end(out: &mut [u8], at: usize, refusal: u8, value: u32) -> usize
     requires { at + longest_end ≤ length out.old }
     ensures { (result ≡ at + length (end_text refusal value)) × (out.new ≡ overwrite at (end_text refusal value) out.old) }
 {
-    if value != 0 {
-        return put_fields(out, at, refusal, value);
+    if value != 0 || 9 < refusal {
+        put_fields(out, at, refusal, value)
+    } else {
+        put_digit(out, at, refusal)
     }
-    if 9 < refusal {
-        return put_fields(out, at, refusal, value);
-    }
-    put_digit(out, at, refusal)
-}
-
-// An answer from a position on; the position behind.
-fn put_answer(out: &mut [u8], at: usize, number: u64, refusal: u8, value: u32) -> usize
-    requires { at + longest_answer ≤ length out.old }
-    ensures { (result ≡ at + length (answer_text number refusal value))
-        × (out.new ≡ overwrite at (answer_text number refusal value) out.old) }
-{
-    let behind = put_number(out, at, number);
-    put_end(out, behind, refusal, value)
 }
 
 // The answer to a line that prints nothing else, from a position on; the position behind.
@@ -93,7 +80,8 @@ pub fn print(out: &mut [u8], at: usize, number: u64, refusal: u8, value: u32) ->
     ensures { (result ≡ at + length (print_text number refusal value []))
         × (out.new ≡ overwrite at (print_text number refusal value []) out.old) }
 {
-    put_answer(out, at, number, refusal, value)
+    let behind = put_number(out, at, number);
+    put_end(out, behind, refusal, value)
 }
 
 // The M line of an `X`, from a position on; the position behind. It is written where it is printed: no room is cleared for it, which would be
@@ -103,9 +91,8 @@ fn put_masks(out: &mut [u8], at: usize, first: u32, post: usize, masks: &[u32]) 
     ensures { (result ≡ at + length (Lines.text (Lines.masks first post masks.now)))
         × (out.new ≡ overwrite at (Lines.text (Lines.masks first post masks.now)) out.old) }
 {
-    let head = [first, post as u32];
-    let end = at + street_store::TOLD_ROOM;
-    let size = csv_fields::put_line(b'M', &head, masks, &mut out[at..end]);
+    let room = &mut out[at..at + street_store::TOLD_ROOM];
+    let size = csv_fields::put_line(b'M', &[first, post as u32], masks, room);
     at + size
 }
 
@@ -122,6 +109,6 @@ pub fn print_masks(
     ensures { (result ≡ at + length (print_text number 0 0 (Lines.text (Lines.masks first post masks.now))))
         × (out.new ≡ overwrite at (print_text number 0 0 (Lines.text (Lines.masks first post masks.now))) out.old) }
 {
-    let behind = put_answer(out, at, number, 0, 0);
+    let behind = print(out, at, number, 0, 0);
     put_masks(out, behind, first, post, masks)
 }

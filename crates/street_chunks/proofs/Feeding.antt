@@ -8,10 +8,11 @@ use borrow.Author.Tests.{eq-eqb, ne_eqb}
 use lib.ListN.{length, take, length-take}
 use lib.Seq.{length-take-le}
 use Rattle.street_feeds.specs.declared.Feed.{Feed}
-use Rattle.street_transcript.specs.declared.Progress.{Progress}
+use Rattle.std.specs.Prelude.{Result}
+use Rattle.refusal.specs.declared.Refusal.{Refusal}
 use Rattle.street_feeds.specs.Program.{Running, running, fed, drained, drained_feed}
 use Rattle.street_feeds.specs.Between.{Open, Fed}
-use Rattle.street_transcript.specs.Between.{Moved}
+use Rattle.street_transcript.specs.Between.{Moved, feed_after}
 use Rattle.street_transcript.specs.Limits.{feed_refusal_of}
 use Rattle.street_transcript.proofs.Admitting.{open_none}
 use Rattle.street_port.specs.declared.Printed.{Printed}
@@ -36,20 +37,26 @@ handed_first answers out at before after h e q =
     record { first = ap (λ (k : ℕ). take k out) n ∙ e; count = q ∙ ap (λ (s : List ℕ). wrapped (before.total + length s)) e }
 
 -- ---- a chunk is not refused
-module _ (f : Feed) (store line out chunk newLine : List ℕ) (g : Progress) (store' line' out' : List ℕ)
+module _ (f : Feed) (store line out chunk newLine : List ℕ) (a : Result Feed Refusal) (store' line' out' : List ℕ)
     (m : Moved (feed_refusal_of f store line out (length chunk)) (length chunk) f store line out
-    (fed (running f store line out) chunk) newLine g store' line' out')
+    (fed (running f store line out) chunk) newLine a store' line' out')
     (o : Open f store line out chunk_size) (h : length chunk ≤ chunk_size) where
+  abbrev g : Feed
+  g = feed_after f a
+
   none : feed_refusal_of f store line out (length chunk) ≡ 0
   none = open_none f store line out (length chunk) (open_fewer f store line out (length chunk) chunk_size h o)
 
-  d : Fed f g.feed store' (length chunk)
+  d : Fed f g store' (length chunk)
   d = m.left none
 
-  pub answers_in : length out' ≡ length out → g.feed.at ≤ length out'
+  pub answers_in : length out' ≡ length out → g.at ≤ length out'
   answers_in l = omega (arith, d.room, o.room)
 
-  module _ (v : Feed) (q : v ≡ drained_feed g.feed) where
+  module _ (v kept : Feed) (w : kept ≡ g) (t : v ≡ drained_feed kept) where
+    q : v ≡ drained_feed g
+    q = t ∙ ap drained_feed w
+
     pub chunk_open : length line' ≡ length line → Open v store' line' out' 0
     chunk_open l =
         rw q
@@ -67,13 +74,13 @@ module _ (f : Feed) (store line out chunk newLine : List ℕ) (g : Progress) (st
     pub chunk_numbers : v.number ≤ f.number + chunk_size
     chunk_numbers = rw q (omega (arith, d.numbers))
 
-    pub chunk_answered : (before after : Printed) → length out' ≡ length out → after.total ≡ wrapped (before.total + length (take g.feed.at out'))
+    pub chunk_answered : (before after : Printed) → length out' ≡ length out → after.total ≡ wrapped (before.total + length (take kept.at out'))
         → Answered (running f store line out) (running v store' line' out') chunk out' before after
-    chunk_answered before after l t =
-        let e : running g.feed store' line' out' ≡ fed (running f store line out) chunk = m.says none in
+    chunk_answered before after l u =
+        let e : running g store' line' out' ≡ fed (running f store line out) chunk = m.says none in
         record {
           taken = rw q (ap drained e);
-          handed = handed_first _ out' g.feed.at before after (answers_in l) (ap (λ (z : Running). z.out) e) t;
+          handed = handed_first _ out' g.at before after (answers_in l) (ap (λ (z : Running). z.out) e) (rw w at u);
         }
 
 -- ---- what was read

@@ -49,7 +49,7 @@ fn answer_chunk<W: Write>(
         × (result.feed.at ≡ 0) × (result.feed.number ≤ feed.number + chunk_size) }
 {
     let taken = street_transcript::feed_chunk(feed, store, line, chunk, out);
-    let fed = taken.feed;
+    let fed = taken.unwrap_or(feed);
     let at = fed.at;
     let printed = street_port::print(output, before, &out[..at]);
     Answers {

@@ -12,7 +12,7 @@ use session::{Answer, Session};
 use shape::Shape;
 use street_orders::Order;
 
-// What a look hands back: the answer, and what the records are kept for.
+// What a look hands back: the answer, whose refusal and value are the numbers that are printed, and what the records are kept for.
 #[derive(Clone, Copy)]
 pub struct Outcome {
     pub refusal: u8,
@@ -110,8 +110,8 @@ fn open<'a>(
 {
     let found = street_rowlines::open(session, store, empty, kept, row);
     Outcome {
-        refusal: found.refusal,
-        value: found.value,
+        refusal: refusal::number_of(found),
+        value: found.unwrap_or(0),
         kept,
         triple,
     }

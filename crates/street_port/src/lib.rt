@@ -56,12 +56,11 @@ fn write_whole<W: Write>(writer: &mut W, text: &[u8]) -> bool
     ensures all { result ≡ true → Appends (W.contents writer.old) (W.contents writer.new) text.now }
     ensures part { result ≡ false → AppendsPart (W.contents writer.old) (W.contents writer.new) text.now }
 {
-    let mut done = 0;
-    while done < text.len() {
-        match writer.write(&text[done..]) {
-            Ok(0) => return false,
-            Ok(taken) => done += taken,
-            Err(_) => return false,
+    let mut left = text;
+    while !left.is_empty() {
+        match writer.write(left) {
+            Ok(0) | Err(_) => return false,
+            Ok(taken) => left = &left[taken..],
         }
     }
     true

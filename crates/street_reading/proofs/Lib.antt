@@ -1,4 +1,4 @@
 -- The numbers of a line and the settings of a start line: each way in which reading them ends.
-pub mod Settings
+pub mod Starts
 pub mod Scanned
 pub mod Written

@@ -11,8 +11,8 @@ use lib.Seq.{drop-cons}
 use Rattle.field.specs.Modulus.{p}
 use Rattle.refusal.specs.Refusal.{◌when◌, first}
 use Rattle.refusal.specs.Conditions.{beyond, any_beyond}
+use Rattle.std.specs.Prelude.{Option, Some, None}
 use Rattle.csv_fields.specs.declared.Run.{Run}
-use Rattle.csv_fields.specs.declared.Run.TheVariants.{Fields, Broken}
 use Rattle.csv_fields.specs.Fields.{Parsed, parsed, malformed, fields_at, ended, numbers_of_of, largest_from, run_of, Fillable}
 use Rattle.csv_fields.specs.Walk.{Roomed}
 use Rattle.csv_fields.proofs.Single.{largest_narrow}
@@ -21,7 +21,7 @@ use Rattle.forms.specs.Forms.{is_malformed}
 use Rattle.forms.proofs.Ranges.{largest_any}
 use Rattle.street_reading.specs.Numbers.{number_form, numbers, rows_beyond, elements_refusal, read_refusal}
 use Rattle.street_reading.specs.Between.{Taken}
-use Rattle.street_reading.proofs.Settings.{ended_broken, same_run}
+use Rattle.street_reading.proofs.Starts.{ended_broken, same_run, no_run, same_some}
 
 record Found (o : Parsed) (largest : ℕ) : Type 0 where
   numbers : List ℕ
@@ -29,39 +29,39 @@ record Found (o : Parsed) (largest : ℕ) : Type 0 where
   all : o ≡ parsed numbers next
   largest_is : largest ≡ largest_from 0 numbers
 
-found : (o : Parsed) (largest next : ℕ) → run_of o ≡ Fields largest next → Found o largest
-found malformed largest next e = let z : ◌≡◌ {A = ℕ} 0 1 = cc in absurd (omega arith)
-found (parsed xs n) largest next e = record { numbers = xs; next = n; all = refl; largest_is = cc }
+found : (o : Parsed) (r : Run) → run_of o ≡ Some r → Found o r.largest
+found malformed r e = no_run r e
+found (parsed xs n) r e = record { numbers = xs; next = n; all = refl; largest_is = ap (λ (x : Run). x.largest) (same_some r _ (sym e)) }
 
 -- ---- the elements
-module _ (s out : List ℕ) (r : Run) (e : r ≡ run_of (ended s (fields_at (length out) s 1))) where
+module _ (s out : List ℕ) (r : Option Run) (e : r ≡ run_of (ended s (fields_at (length out) s 1))) where
   abbrev k : ℕ
   k = length out
 
   abbrev rest : Parsed
   rest = ended s (fields_at k s 1)
 
-  pub elements_broken : r ≡ Broken → 10 ≡ elements_refusal k s
+  pub elements_broken : r ≡ None → 10 ≡ elements_refusal k s
   unfolding elements_refusal number_form
   elements_broken w = rw (ended_broken rest (sym e ∙ w))
 
-  module _ (largest next : ℕ) (w : r ≡ Fields largest next) where
-    there : Found rest largest
-    there = found rest largest next (sym e ∙ w)
+  module _ (a : Run) (w : r ≡ Some a) where
+    there : Found rest a.largest
+    there = found rest a (sym e ∙ w)
 
-    refusal_is : elements_refusal k s ≡ first (11 when beyond largest ∷ [])
+    refusal_is : elements_refusal k s ≡ first (11 when beyond a.largest ∷ [])
     unfolding elements_refusal number_form
     refusal_is = rw there.all (ap (λ (b : Bool). first (11 when b ∷ [])) (largest_any 0 there.numbers ∙ ap beyond (sym there.largest_is)))
 
-    pub element_beyond : p ≤ largest → 11 ≡ elements_refusal k s
-    element_beyond g = sym (refusal_is ∙ rw (le-ltb largest p g))
+    pub element_beyond : p ≤ a.largest → 11 ≡ elements_refusal k s
+    element_beyond g = sym (refusal_is ∙ rw (le-ltb a.largest p g))
 
-    module _ (g : largest < p) where
+    module _ (g : a.largest < p) where
       pub elements_fine : 0 ≡ elements_refusal k s
-      elements_fine = sym (refusal_is ∙ rw (lt-ltb largest p g))
+      elements_fine = sym (refusal_is ∙ rw (lt-ltb a.largest p g))
 
       same : rest ≡ fields_at k s 1
-      same = same_run s (fields_at k s 1) largest next (sym e ∙ w)
+      same = same_run s (fields_at k s 1) a (sym e ∙ w)
 
       elements_fillable : Fillable (fields_at k s 1)
       elements_fillable =

@@ -1,9 +1,8 @@
 -- Document 01, "The street program": the form of `S,n,t,post,checkpoint`; document 02, (ix): `W,n,t,post,first,second`, "by all the rules of an `S`".
-use Rattle.std.specs.Prelude.{ℕ, suc, ◌+◌, ◌/◌, List, Bool, ◌&&◌, ◌||◌, cond, length, get_or, eqb, ltb}
+use Rattle.std.specs.Prelude.{ℕ, suc, ◌+◌, ◌/◌, List, Bool, ◌&&◌, ◌||◌, cond, length, get_or, eqb, ltb, Option, Some, None}
 use Rattle.shape.specs.Bounds.{most_points}
 use Rattle.csv_fields.specs.Fields.{Parsed, parsed, malformed, push, fields_at, ended}
-use Rattle.street_reading.specs.declared.StartForm.{StartForm}
-use Rattle.street_reading.specs.declared.StartForm.TheVariants.{Settings, Wrong}
+use Rattle.street_reading.specs.declared.Settings.{Settings}
 
 -- `S` or `W`
 abbrev pub starts_with : ℕ → Bool
@@ -39,10 +38,19 @@ unfoldable pub start_form : ℕ → List ℕ → Parsed
 start_form points s = after_first (fields_at 1 s 1) (behind_posts s points)
 
 -- Where there is one check point, the second is 0.
-abbrev pub start_of : ℕ → Parsed → StartForm
-start_of points (parsed xs next) = Settings (get_or xs 0 0) (get_or xs 1 0) (get_or xs 2 0) points (get_or xs 3 0) (get_or xs 4 0)
-start_of points malformed = Wrong
+abbrev pub start_of : ℕ → Parsed → Option Settings
+start_of points (parsed xs next) =
+    Some
+    (record {
+      n = get_or xs 0 0;
+      t = get_or xs 1 0;
+      post = get_or xs 2 0;
+      points = points;
+      first = get_or xs 3 0;
+      second = get_or xs 4 0;
+    })
+start_of points malformed = None
 
 -- What a start line says.
-unfoldable pub start_said : List ℕ → StartForm
+unfoldable pub start_said : List ℕ → Option Settings
 start_said s = start_of (points_in_of s) (start_form (points_in_of s) s)

@@ -6,13 +6,15 @@ pub mod loads;
 ghost use Rattle.std.specs.Prelude.{◌≡◌, ◌≤◌, length, replicate};
 ghost use Rattle.session.specs.Sessions.{shape_of, holding};
 ghost use Rattle.opening.specs.Opening.{open_answer};
+ghost use Rattle.refusal.specs.Numbers.{refused};
+ghost use Rattle.walk.specs.Number.{value_or_zero};
 ghost use Rattle.street_store.specs.Sizes.{InStreet, openings_at, record_room, store_room};
 ghost use Rattle.street_store.specs.Records.{record_for};
 ghost use Rattle.street_states.specs.States.{rows_of, with_rows};
 ghost use Rattle.street_rowlines.specs.Steps.{sum_answer, sum_rows_of};
 
+use refusal::Refusal;
 use session::{Answer, Session};
-use walk::Opened;
 
 // The sum that five numbers name.
 pub fn add(session: Session, store: &mut [u32], numbers: &[u32]) -> Answer
@@ -43,9 +45,9 @@ pub fn open<'a>(
     empty: &'a [u32],
     kept: usize,
     row: usize,
-) -> Opened
+) -> Result<u32, Refusal>
     requires { InStreet (shape_of session) × (length store.now ≡ store_room) × (empty.now ≡ replicate record_room 0) }
-    ensures { holding result.refusal result.value session ≡ open_answer session (rows_of session store.now) row
+    ensures { holding (refused result) (value_or_zero result) session ≡ open_answer session (rows_of session store.now) row
         (record_for openings_at (shape_of session) kept row store.now) }
 {
     let end = street_states::rows_end(session);

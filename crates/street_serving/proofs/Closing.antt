@@ -6,11 +6,13 @@ use mathlib.Core.List.{List, [], ◌∷◌, ◌++◌, append_assoc}
 use native.Mathlib.Omega.{arith}
 use borrow.Author.Tests.{ne_eqb}
 use lib.ListN.{length, take}
-use Rattle.street_transcript.specs.declared.Progress.{Progress}
+use Rattle.std.specs.Prelude.{Result}
+use Rattle.refusal.specs.declared.Refusal.{Refusal}
+use Rattle.street_feeds.specs.declared.Feed.{Feed}
 use Rattle.street_answers.specs.Text.{header}
 use Rattle.street_feeds.specs.Program.{Running, running, closed, drained, printed_for, begun}
 use Rattle.street_feeds.specs.Between.{Open}
-use Rattle.street_transcript.specs.Between.{Moved}
+use Rattle.street_transcript.specs.Between.{Moved, feed_after}
 use Rattle.street_transcript.specs.Limits.{feed_refusal_of}
 use Rattle.street_transcript.proofs.Admitting.{open_none}
 use Rattle.street_transcript.proofs.Whole.{chunks_print}
@@ -33,26 +35,30 @@ module _ (s : Served) (b : Bool) (f : b ≡ broken_off_of s) where
   pub unbroken_whole : b ≡ false → s.printed.whole ≡ true
   unbroken_whole e = (neither s.got.failed s.printed.whole (sym f ∙ e)).1
 
-module _ (s : Served) (store line out newLine : List ℕ) (g : Progress) (store' line' out' : List ℕ)
+module _ (s : Served) (store line out newLine : List ℕ) (a : Result Feed Refusal) (store' line' out' : List ℕ)
     (m : Moved (feed_refusal_of s.feed store line out 1) 1 s.feed store line out
-    (closed (running s.feed store line out)) newLine g store' line' out')
+    (closed (running s.feed store line out)) newLine a store' line' out')
     (o : Open s.feed store line out 1) where
+  abbrev g : Feed
+  g = feed_after s.feed a
+
   none : feed_refusal_of s.feed store line out 1 ≡ 0
   none = open_none s.feed store line out 1 o
 
-  pub last_in : length out' ≡ length out → g.feed.at ≤ length out'
+  pub last_in : length out' ≡ length out → g.at ≤ length out'
   last_in l = omega (arith, o.room, (m.left none).room)
 
-  pub finished_closed : (q : Printed) → length out' ≡ length out → (b : Bool) → b ≡ broken_off_of s → b ≡ false
-      → q.total ≡ wrapped (s.printed.total + length (take g.feed.at out'))
-      → Finished (running s.feed store line out) (running g.feed store' line' out') out' s
-      (record { feed = g.feed; got = s.got; printed = q })
-  finished_closed q l b f e t =
-      let c : running g.feed store' line' out' ≡ closed (running s.feed store line out) = m.says none in
+  pub finished_closed : (kept : Feed) → kept ≡ g → (q : Printed) → length out' ≡ length out → (b : Bool) → b ≡ broken_off_of s → b ≡ false
+      → q.total ≡ wrapped (s.printed.total + length (take kept.at out'))
+      → Finished (running s.feed store line out) (running kept store' line' out') out' s
+      (record { feed = kept; got = s.got; printed = q })
+  finished_closed kept w q l b f e t =
+      let c : running kept store' line' out' ≡ closed (running s.feed store line out) =
+      ap (λ (x : Feed). running x store' line' out') w ∙ m.says none in
       record {
         same = refl;
         broken = λ y. absurd (true≢false (sym y ∙ sym f ∙ e));
-        closes = λ _. (c, handed_first _ out' g.feed.at s.printed q (last_in l) (ap (λ (z : Running). z.out) c) t);
+        closes = λ _. (c, handed_first _ out' kept.at s.printed q (rw w (last_in l)) (ap (λ (z : Running). z.out) c) t);
       }
 
 -- ---- the end of the program

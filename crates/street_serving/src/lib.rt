@@ -75,7 +75,7 @@ fn finish<W: Write>(
     let got = served.got;
     let printed = served.printed;
     let taken = street_transcript::end_input(served.feed, store, line, out);
-    let ended = taken.feed;
+    let ended = taken.unwrap_or(served.feed);
     let at = ended.at;
     let last = street_port::print(output, printed, &out[..at]);
     Served {

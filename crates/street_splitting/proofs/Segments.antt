@@ -1,23 +1,28 @@
 -- The walk to the end of a line, and bytes put behind those of a line.
-use Prim.Native.Nat.{ℕ, suc, ◌+◌, ◌-◌, ◌≤◌, ◌<◌}
+use Prim.Native.Nat.{ℕ, zero, suc, ◌+◌, ◌-◌, ◌≤◌, ◌<◌}
 use mathlib.Core.Path.{◌≡◌, refl, ap, sym, ◌∙◌}
-use mathlib.Core.List.{List, ◌++◌, append_assoc}
+use mathlib.Core.List.{List, [], ◌∷◌, ◌++◌, append_assoc}
 use mathlib.Core.Bool.{Bool, true, false, cond}
 use native.Mathlib.Nat.{add-sub_cancel_left}
 use native.Mathlib.Numerals.{add-one}
+use Rattle.std.specs.Prelude.{min, max}
 use native.Mathlib.Omega.{arith}
-use borrow.Author.Tests.{lt-ltb, le-ltb, ne_eqb, ltb-false}
+use borrow.Author.Tests.{ne_eqb, ltb-true, ltb-false}
 use borrow.Rule.Slice.PartMut.{put_mid}
 use mir.Syntax.{w64}
 use mir.Val.{Fits}
 use lib.ListN.{length, get_or, take, drop, length-append, length-drop, drop_of_length-le}
 use lib.Seq.{drop-cons, take_at, take_all, take-append-add, length-take-le}
-use lib.Dec.{ltb}
+use lib.Dec.{ltb, eqb}
 use Rattle.csv_fields.specs.Fields.{overwrite}
 use Rattle.csv_fields.proofs.Overwriting.{overwrite_part}
 use Rattle.street_splitting.specs.Lines.{segment, kept_length, cut, laid}
 
 -- ---- the end of a line
+none_here : (s : List ℕ) (from : ℕ) → length s ≤ from → from ≡ from + segment (drop from s)
+unfolding segment
+none_here s from h = let q : segment (drop from s) ≡ 0 = rw (drop_of_length-le s h) in omega arith
+
 module _ (s : List ℕ) (from i : ℕ) (inv : i + segment (drop i s) ≡ from + segment (drop from s)) where
   pub segment_end : i < length s → get_or s i 0 ≡ 10 → i + 1 ≡ from + segment (drop from s)
   unfolding segment
@@ -33,12 +38,19 @@ module _ (s : List ℕ) (from i : ℕ) (inv : i + segment (drop i s) ≡ from + 
   unfolding segment
   segment_none h = let q : i + 0 ≡ from + segment (drop from s) = rw (drop_of_length-le s h) at inv in omega arith
 
--- ---- the smaller of two numbers
-pub least_first : (a b : ℕ) → a < b → a ≡ cond (ltb a b) a b
-least_first a b h = rw (lt-ltb a b h)
-
-pub least_second : (a b : ℕ) → b ≤ a → b ≡ cond (ltb a b) a b
-least_second a b h = rw (le-ltb a b h)
+  pub segment_last : length s ≤ i → (from ≤ length s → i ≤ length s) → max (length s) from ≡ from + segment (drop from s)
+  segment_last h w = go (ltb (length s) from) refl
+    where
+      go : (b : Bool) → ltb (length s) from ≡ b → max (length s) from ≡ from + segment (drop from s)
+      go true e =
+          let past = ltb-true (length s) from e in
+          let n : from ≡ from + segment (drop from s) = none_here s from (omega arith) in
+          omega arith
+      go false e =
+          let before = ltb-false (length s) from e in
+          let n = segment_none h in
+          let k = w before in
+          omega arith
 
 -- ---- bytes put behind those of a line, as far as there is room
 overwritten : (l ys : List ℕ) (at k : ℕ) → at ≤ length l → length ys ≡ k → take (at + k) (put_mid at k l ys) ≡ take at l ++ ys
@@ -47,7 +59,10 @@ overwritten l ys at k h e =
     ap (take (at + k)) (sym (append_assoc (take at l) ys (drop k (drop at l)))) ∙ take_at (take at l ++ ys) (drop k (drop at l)) (at + k) n
 
 module _ (l part : List ℕ) (len count : ℕ) (h : len ≤ kept_length) (r : length l ≡ kept_length)
-    (c : count ≡ cond (ltb (kept_length - len) (length part)) (kept_length - len) (length part)) (c₁ : count ≤ kept_length - len) (c₂ : count ≤ length part) where
+    (c : count ≡ min (length part) (kept_length - len)) where
+  c₂ : count ≤ length part
+  c₂ = omega arith
+
   pub appended_fits : Fits w64 (len + count)
   appended_fits = omega arith
 
@@ -56,9 +71,6 @@ module _ (l part : List ℕ) (len count : ℕ) (h : len ≤ kept_length) (r : le
 
   pub appended_within : len + count ≤ kept_length
   appended_within = omega arith
-
-  pub appended_prefix : count ≡ length (take count part)
-  appended_prefix = sym (length-take-le count part c₂)
 
   pub appended_size : length (take count part) ≡ length (take (len + count - len) (drop len l))
   appended_size =
@@ -69,13 +81,17 @@ module _ (l part : List ℕ) (len count : ℕ) (h : len ≤ kept_length) (r : le
   size = length-take-le len l (omega arith)
 
   short : take count part ≡ take (kept_length - len) part
-  short = go (ltb (kept_length - len) (length part)) refl c
+  short = go (ltb (kept_length - len) (length part)) refl
     where
-      go : (b : Bool) → ltb (kept_length - len) (length part) ≡ b → count ≡ cond b (kept_length - len) (length part) → take count part ≡ take (kept_length - len) part
-      go true e q = ap (λ (k : ℕ). take k part) q
-      go false e q =
+      go : (b : Bool) → ltb (kept_length - len) (length part) ≡ b → take count part ≡ take (kept_length - len) part
+      go true e =
+          let g = ltb-true (kept_length - len) (length part) e in
+          let k : count ≡ kept_length - len = omega arith in
+          ap (λ (k : ℕ). take k part) k
+      go false e =
           let g : length part ≤ kept_length - len = ltb-false (kept_length - len) (length part) e in
-          ap (λ (k : ℕ). take k part) q ∙ take_all (length part) part (omega arith) ∙ sym (take_all (kept_length - len) part g)
+          let k : count ≡ length part = omega arith in
+          ap (λ (k : ℕ). take k part) k ∙ take_all (length part) part (omega arith) ∙ sym (take_all (kept_length - len) part g)
 
   pub appended_laid : (ys : List ℕ) → ys ≡ take count part → put_mid len (len + count - len) l ys ≡ laid len part l
   appended_laid ys q =

@@ -19,8 +19,8 @@ use Rattle.session.specs.Sessions.{answer, holding, as_many_of, no_points, sessi
 use Rattle.session.specs.declared.Session.{Session}
 use Rattle.session.specs.declared.Answer.{Answer}
 use Rattle.street_store.specs.Sizes.{street_posts, longest_line}
-use Rattle.street_reading.specs.declared.StartForm.{StartForm}
-use Rattle.street_reading.specs.declared.StartForm.TheVariants.{Settings, Wrong}
+use Rattle.std.specs.Prelude.{Option, Some, None}
+use Rattle.street_reading.specs.declared.Settings.{Settings}
 use Rattle.street_reading.specs.Starting.{start_said}
 use Rattle.street_states.specs.declared.State.{State}
 use Rattle.street_states.specs.States.{Stepped, begun_with, refusing, settled}
@@ -116,15 +116,15 @@ module _ (s : List ℕ) where
   unfolding start_answer
   start_long r h q = q ∙ rw (lt-ltb longest_line (length s) h)
 
-  module _ (h : length s ≤ longest_line) (f : StartForm) (e : f ≡ start_said s) where
-    pub start_wrong : (r : Answer) → f ≡ Wrong → r ≡ holding 10 0 unmade → r ≡ start_answer s
+  module _ (h : length s ≤ longest_line) (f : Option Settings) (e : f ≡ start_said s) where
+    pub start_wrong : (r : Answer) → f ≡ None → r ≡ holding 10 0 unmade → r ≡ start_answer s
     unfolding start_answer
     start_wrong r w q = q ∙ rw (le-ltb longest_line (length s) h, ← e, w)
 
-    pub start_settings : (r : Answer) (n t post points first second : ℕ) → f ≡ Settings n t post points first second
-        → r ≡ begin_answer n t post points (record { first = first; second = second }) → r ≡ start_answer s
+    pub start_settings : (r : Answer) (g : Settings) → f ≡ Some g
+        → r ≡ begin_answer g.n g.t g.post g.points (record { first = g.first; second = g.second }) → r ≡ start_answer s
     unfolding start_answer
-    start_settings r n t post points first second w q = q ∙ rw (le-ltb longest_line (length s) h, ← e, w)
+    start_settings r g w q = q ∙ rw (le-ltb longest_line (length s) h, ← e, w)
 
 -- ---- what the program makes of it, before a start line was accepted
 module _ (st : State) (n : st.started ≡ false) where
@@ -146,11 +146,11 @@ module _ (st : State) (n : st.started ≡ false) where
   begins zero new = refl
   begins (suc k) new = rw (n, ne_eqb (suc k) 0 (λ z. absurd (omega arith)))
 
-  settings_begun : (f : StartForm) → begun_by (settings_answer f) ≡ settings_step st f
-  settings_begun (Settings n t post points first₀ second) =
-      let w : Points = record { first = first₀; second = second } in
-      begins (first (start_tests n t post points w)) (session_of n t post points (as_many_of points w))
-  settings_begun Wrong = kept_out 10 (λ z. absurd (omega arith))
+  settings_begun : (f : Option Settings) → begun_by (settings_answer f) ≡ settings_step st f
+  settings_begun (Some g) =
+      let w : Points = record { first = g.first; second = g.second } in
+      begins (first (start_tests g.n g.t g.post g.points w)) (session_of g.n g.t g.post g.points (as_many_of g.points w))
+  settings_begun None = kept_out 10 (λ z. absurd (omega arith))
 
   pub start_begun : (s : List ℕ) → begun_by (start_answer s) ≡ start_step st s
   unfolding start_answer start_step

@@ -3,12 +3,14 @@
 
 ghost use Rattle.std.specs.Prelude.{◌≡◌, cond, ltb};
 ghost use Rattle.field.specs.Modulus.{p};
+ghost use Rattle.refusal.specs.Numbers.{number};
 ghost use Rattle.session.specs.Sessions.{no_points, session_of, holding};
 ghost use Rattle.street_startlines.specs.Between.{begin_answer, start_answer};
 
+use refusal::Refusal;
 use session::{Answer, Session};
 use shape::Points;
-use street_reading::StartForm;
+use street_reading::Settings;
 
 // A number as an element, or p, which is none.
 fn narrow(x: u64) -> u32
@@ -22,24 +24,32 @@ fn narrow(x: u64) -> u32
 }
 
 // A refused start line has no session.
-fn refused(refusal: u8) -> Answer
-    ensures { result ≡ holding refusal 0 (session_of 0 0 0 0 no_points) }
+fn refused(refusal: Refusal) -> Answer
+    ensures { result ≡ holding (number refusal) 0 (session_of 0 0 0 0 no_points) }
 {
     let none = Points {
         first: 0,
         second: 0,
     };
     let unmade = Session::new(0, 0, 0, 0, none);
-    let session = unmade.session;
-    session.refuse(refusal)
+    unmade.session.answer(Err(refusal))
 }
 
 // 1 to 4 of a start line, or its session.
-fn begin(n: u64, t: u64, post: u64, points: usize, first: u64, second: u64) -> Answer
-    ensures { result ≡ begin_answer n t post points (record { first = first; second = second }) }
+#[tactic(auto, using(crate::proofs::Settings::begin_many, crate::proofs::Settings::begin_made))]
+fn begin(settings: Settings) -> Answer
+    ensures { result ≡ begin_answer settings.n settings.t settings.post settings.points (record { first = settings.first; second = settings.second }) }
 {
+    let Settings {
+        n,
+        t,
+        post,
+        points,
+        first,
+        second,
+    } = settings;
     if (street_store::STREET_POSTS as u64) < n {
-        return refused(1);
+        return refused(Refusal::BadPostCount);
     }
     let w = Points {
         first: narrow(first),
@@ -49,22 +59,15 @@ fn begin(n: u64, t: u64, post: u64, points: usize, first: u64, second: u64) -> A
 }
 
 // A start line before one is accepted.
+#[tactic(auto, using(crate::proofs::Settings::start_long, crate::proofs::Settings::start_wrong, crate::proofs::Settings::start_settings))]
 pub fn start(line: &[u8]) -> Answer
     ensures { result ≡ start_answer line.now }
 {
     if street_store::LONGEST_LINE < line.len() {
-        return refused(10);
+        return refused(Refusal::MalformedLine);
     }
-    let form = street_reading::start::scan_start(line);
-    match form {
-        StartForm::Settings {
-            n,
-            t,
-            post,
-            points,
-            first,
-            second,
-        } => begin(n, t, post, points, first, second),
-        StartForm::Wrong => refused(10),
+    match street_reading::start::scan_start(line) {
+        Some(settings) => begin(settings),
+        None => refused(Refusal::MalformedLine),
     }
 }

@@ -13,8 +13,8 @@ use Rattle.session.specs.declared.Session.{Session}
 use Rattle.session.specs.Sessions.{shape_of, answer, as_many_of, session_of, masked_triple}
 use Rattle.product_masks.specs.Masks.{masks_refusal_of, mask_numbers_of}
 use Rattle.street_reading.specs.Numbers.{numbers}
-use Rattle.street_reading.specs.declared.StartForm.{StartForm}
-use Rattle.street_reading.specs.declared.StartForm.TheVariants.{Settings, Wrong}
+use Rattle.std.specs.Prelude.{Option, Some, None}
+use Rattle.street_reading.specs.declared.Settings.{Settings}
 use Rattle.street_reading.specs.Starting.{is_start_of, start_said}
 use Rattle.street_states.specs.declared.State.{State}
 use Rattle.street_states.specs.States.{Stepped, After, begun_with, refusing, answering, leaving, unless, session_rows, calling}
@@ -135,11 +135,11 @@ module _ (st : State) (store : List ℕ) where
     kept_begin zero new n = absurd (n refl)
     kept_begin (suc x) new n = same (suc x)
 
-    kept_settings : (v : StartForm) → KeptEarly (settings_step st v)
-    kept_settings (Settings n t post points first₀ second) =
-        let w : Points = record { first = first₀; second = second } in
-        kept_begin (first (start_tests n t post points w)) (session_of n t post points (as_many_of points w))
-    kept_settings Wrong = λ n. same 10
+    kept_settings : (v : Option Settings) → KeptEarly (settings_step st v)
+    kept_settings (Some g) =
+        let w : Points = record { first = g.first; second = g.second } in
+        kept_begin (first (start_tests g.n g.t g.post g.points w)) (session_of g.n g.t g.post g.points (as_many_of g.points w))
+    kept_settings None = λ n. same 10
 
     kept_early : KeptEarly (early_step st s)
     unfolding early_step start_step

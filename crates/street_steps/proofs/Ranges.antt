@@ -18,8 +18,8 @@ use Rattle.collect.specs.Collect.{number_a, number_b, collect_refusal}
 use Rattle.multiply.specs.Multiply.{multiply_refusal_of, multiply_answer}
 use Rattle.street_store.specs.Sizes.{street_posts, masks_a_at, masks_b_at, InStreet, longest_line}
 use Rattle.street_reading.specs.Numbers.{numbers}
-use Rattle.street_reading.specs.declared.StartForm.{StartForm}
-use Rattle.street_reading.specs.declared.StartForm.TheVariants.{Settings, Wrong}
+use Rattle.std.specs.Prelude.{Option, Some, None}
+use Rattle.street_reading.specs.declared.Settings.{Settings}
 use Rattle.street_reading.specs.Starting.{is_start_of, start_said}
 use Rattle.street_states.specs.declared.State.{State}
 use Rattle.street_states.specs.States.{Stepped, After, leaving, session_rows}
@@ -51,10 +51,10 @@ accepted_range n t post points w e =
     record { valid = posts_valid n t points (a.1.0, (a.1.1.0, tt)) (points_good points w a.1.1.1.1.0).0; few = ltb-false street_posts n a.0 }
 
 module _ (st : State) (f : st.started ≡ true → InStreet (shape_of st.session)) where
-  fine_settings : (v : StartForm) → Fine (settings_step st v)
-  fine_settings (Settings n t post points first₀ second) =
-      fine_outcome _ _ _ (λ z e. accepted_range n t post points (record { first = first₀; second = second }) z) f
-  fine_settings Wrong = f
+  fine_settings : (v : Option Settings) → Fine (settings_step st v)
+  fine_settings (Some g) =
+      fine_outcome _ _ _ (λ z e. accepted_range g.n g.t g.post g.points (record { first = g.first; second = g.second }) z) f
+  fine_settings None = f
 
   fine_start : (s : List ℕ) → Fine (start_step st s)
   unfolding start_step

@@ -1,6 +1,6 @@
 -- The store has room, and the session is one of the street's, exactly where a step refuses neither.
 use Prim.Native.Nat.{ℕ, ◌-◌, ◌≤◌, ◌<◌}
-use mathlib.Core.Path.{◌≡◌, refl, ap₂, sym, ◌∙◌}
+use mathlib.Core.Path.{◌≡◌, refl, ap, ap₂, sym, ◌∙◌}
 use mathlib.Core.List.{List, [], ◌∷◌}
 use mathlib.Core.Bool.{Bool, true, false, cond, ◌||◌}
 use borrow.Author.Tests.{lt-ltb, le-ltb, eq-eqb, ltb-false}
@@ -10,6 +10,11 @@ use Rattle.shape.specs.Bounds.{fewest_posts, most_posts, most_points}
 use Rattle.shape.specs.Lengths.{shape}
 use Rattle.refusal.specs.Refusal.{◌when◌, first, or_else}
 use Rattle.refusal.specs.Conditions.{wrong_length, station_tests}
+use Rattle.std.specs.Prelude.{Result}
+use Rattle.std.specs.Result.{result_and}
+use Rattle.refusal.specs.declared.Refusal.{Refusal}
+use Rattle.refusal.specs.Numbers.{refused}
+use Rattle.refusal.proofs.Checks.{refused_and}
 use Rattle.refusal.proofs.Laws.{or_else_zero, all_fail, equal}
 use Rattle.refusal.proofs.Ranges.{station_valid}
 use Rattle.session.specs.Sessions.{shape_of}
@@ -61,10 +66,10 @@ unfolding room_refusal_of
 ready_none st store h = rw (range_station st h.in_range, eq-eqb (length store) store_room h.store_room_is)
 
 -- ---- the ways in which a step ends
-pub room_joined : (st : State) (store : List ℕ) (r a b : ℕ) → r ≡ or_else a b → a ≡ station_refusal_of st → b ≡ first (5 when wrong_length store store_room ∷ [])
-    → r ≡ room_refusal_of st store
+pub room_joined : {A : Type 0} (st : State) (store : List ℕ) (r a b : Result A Refusal) → r ≡ result_and a b → refused a ≡ station_refusal_of st
+    → refused b ≡ first (5 when wrong_length store store_room ∷ []) → refused r ≡ room_refusal_of st store
 unfolding room_refusal_of
-room_joined st store r a b e p q = e ∙ ap₂ or_else p q
+room_joined st store r a b e p q = ap refused e ∙ refused_and a b ∙ ap₂ or_else p q
 
 pub station_many : (st : State) → st.started ≡ true → street_posts < st.session.n → 1 ≡ station_refusal_of st
 station_many st e h = rw (e, lt-ltb street_posts st.session.n h)

@@ -1,6 +1,6 @@
 -- A record of the store: emptied or kept, and its place inside the store.
 use Prim.Native.Nat.{ℕ, zero, suc, ◌+◌, ◌-◌, ◌≤◌, ◌<◌, ◌^◌}
-use mathlib.Core.Path.{◌≡◌, refl, ap, sym, ◌∙◌}
+use mathlib.Core.Path.{◌≡◌, refl, ap, ◌∙◌}
 use mathlib.Core.List.{List, ◌∷◌}
 use mathlib.Core.Bool.{Bool, true, false}
 use native.Mathlib.Nat.{add-sub_cancel_left, mul-le-mul}
@@ -75,9 +75,6 @@ module _ (g : Shape) (store empty : List ℕ) (at k : ℕ) (same : Bool) (i : In
     (z : empty ≡ replicate record_room 0) (e : k ≡ record_length g) where
   pub record_within : k ≤ length empty
   record_within = omega (arith, record_room_is g i, ap length z, length-replicate {A = ℕ} record_room 0)
-
-  pub record_prefix : k ≡ length (take k empty)
-  record_prefix = sym (length-take-le k empty record_within)
 
   pub record_stands : same ≡ true → take (at + k - at) (drop at store) ≡ record_if same (record_at at g store)
   record_stands q = rw (add-sub_cancel_left at k, e, q)

@@ -47,37 +47,18 @@ pub const MASKS_B_AT: usize = MASKS_A_AT + RECORD_ROOM;
 
 pub const STORE_ROOM: usize = MASKS_B_AT + RECORD_ROOM;
 
-// The bytes of `from`, into `to`: of a line, or of an answer.
-pub fn copy_bytes(from: &[u8], to: &mut [u8])
-    requires { length from.now ≡ length to.old }
-    ensures { to.new ≡ from.now }
-{
-    for i in 0..from.len() {
-        to[i] = from[i];
-    }
-}
-
 // The record is emptied, unless it is kept for what a line names.
+#[tactic(auto, using(crate::proofs::Keeping::kept_same, crate::proofs::Keeping::kept_empty))]
 fn empty_unless(blocks: &mut [u32], same: bool)
     ensures { blocks.new ≡ record_if same blocks.old }
 {
-    if same {
-        return;
+    if !same {
+        lists::clear(blocks);
     }
-    lists::clear(blocks);
 }
 
-// A post's coefficients in a record, which is emptied first unless it is kept for what the line names.
-fn keep_block(blocks: &mut [u32], shape: Shape, same: bool, post: usize, coefficients: &[u32])
-    requires { InStreet shape × (length blocks.old ≡ record_length shape) × (1 ≤ post) × (post ≤ shape.n)
-        × (length coefficients.now ≡ v_length shape) }
-    ensures { blocks.new ≡ with_block shape post (block_of coefficients.now) (record_if same blocks.old) }
-{
-    empty_unless(blocks, same);
-    records::put_block(shape, blocks, post, coefficients);
-}
-
-// The same for the record that stands at a place of the store.
+// A post's coefficients in the record that stands at a place of the store, which is emptied first unless it is kept for what the line names.
+#[tactic(auto, using(crate::proofs::Keeping::street_valid, crate::proofs::Keeping::place_fits, crate::proofs::Keeping::place_within, crate::proofs::Keeping::place_length, crate::proofs::Keeping::place_kept, crate::proofs::Keeping::block_kept, blocks::proofs::Blocks::post_in))]
 pub fn keep(
     store: &mut [u32],
     at: usize,
@@ -90,11 +71,13 @@ pub fn keep(
         × (length coefficients.now ≡ v_length shape) }
     ensures { store.new ≡ kept at shape same post coefficients.now store.old }
 {
-    let end = at + shape.record_len();
-    keep_block(&mut store[at..end], shape, same, post, coefficients);
+    let blocks = &mut store[at..at + shape.record_len()];
+    empty_unless(blocks, same);
+    records::put_block(shape, blocks, post, coefficients);
 }
 
 // The record that stands at a place of the store, uncopied, if it is kept for what a line names; else an empty one.
+#[tactic(auto, using(crate::proofs::Keeping::street_valid, crate::proofs::Keeping::place_fits, crate::proofs::Keeping::place_within, crate::proofs::Keeping::record_within, crate::proofs::Keeping::record_stands, crate::proofs::Keeping::record_empty))]
 pub fn record<'a>(
     shape: Shape,
     store: &'a [u32],
@@ -107,8 +90,8 @@ pub fn record<'a>(
 {
     let count = shape.record_len();
     if same {
-        let end = at + count;
-        return &store[at..end];
+        &store[at..at + count]
+    } else {
+        &empty[..count]
     }
-    &empty[..count]
 }

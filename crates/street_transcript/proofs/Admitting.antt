@@ -1,11 +1,16 @@
 -- There is room for k bytes exactly where they are not refused; and what the calls hand back.
 use Prim.Native.Nat.{ℕ, ◌+◌, ◌-◌, ◌*◌, ◌/◌, ◌≤◌, ◌<◌, ◌^◌}
-use mathlib.Core.Path.{◌≡◌, refl, ap₂, sym, ◌∙◌}
+use mathlib.Core.Path.{◌≡◌, refl, ap, ap₂, sym, ◌∙◌}
 use mathlib.Core.List.{List, [], ◌∷◌}
 use mathlib.Core.Bool.{true, false}
 use native.Mathlib.Omega.{arith}
 use borrow.Author.Tests.{lt-ltb, le-ltb, eq-eqb, ne_eqb, ltb-false}
 use lib.ListN.{length}
+use Rattle.std.specs.Prelude.{Result}
+use Rattle.std.specs.Result.{result_and}
+use Rattle.refusal.specs.declared.Refusal.{Refusal}
+use Rattle.refusal.specs.Numbers.{refused}
+use Rattle.refusal.proofs.Checks.{refused_and}
 use Rattle.refusal.specs.Refusal.{first, or_else}
 use Rattle.refusal.proofs.Laws.{or_else_zero, all_fail, equal}
 use Rattle.street_steps.specs.Stepping.{room_refusal_of}
@@ -54,10 +59,10 @@ module _ (f : Feed) (line out : List ℕ) (k : ℕ) where
 
 -- ---- all together
 module _ (f : Feed) (store line out : List ℕ) (k : ℕ) where
-  pub refusal_joined : (r a b : ℕ) → r ≡ or_else a b → a ≡ room_refusal_of f.state store → b ≡ first (feed_tests f line out k)
-      → r ≡ feed_refusal_of f store line out k
+  pub refusal_joined : {A : Type 0} (r a b : Result A Refusal) → r ≡ result_and a b → refused a ≡ room_refusal_of f.state store
+      → refused b ≡ first (feed_tests f line out k) → refused r ≡ feed_refusal_of f store line out k
   unfolding feed_refusal_of
-  refusal_joined r a b e p q = e ∙ ap₂ or_else p q
+  refusal_joined r a b e p q = ap refused e ∙ refused_and a b ∙ ap₂ or_else p q
 
   pub none_open : (r : ℕ) → r ≡ feed_refusal_of f store line out k → r ≡ 0 → Open f store line out k
   unfolding feed_refusal_of
@@ -77,32 +82,6 @@ module _ (f : Feed) (store line out : List ℕ) (k : ℕ) where
   open_none o =
       let n : f.number + k ≤ last_number = omega (arith, o.numbers) in
       rw (ready_none f.state store o.ready, eq-eqb (length line) kept_length o.line_room, le-ltb kept_length f.len o.len_in, le-ltb (length out) (f.at + longest_print * k) o.room, le-ltb last_number (f.number + k) n)
-
-  module _ (new : Running) (newLine : List ℕ) (r : ℕ) (e : r ≡ feed_refusal_of f store line out k) where
-    pub moved_nothing : (r ≡ 0 → ⊥)
-        → Moved (feed_refusal_of f store line out k) k f store line out new newLine (record { refusal = r; feed = f }) store line out
-    moved_nothing n =
-        record {
-          refusal_is = e;
-          refused = λ _. (refl, refl, refl, refl);
-          says = λ z. absurd (n (e ∙ z));
-          line_is = λ z. absurd (n (e ∙ z));
-          left = λ z. absurd (n (e ∙ z));
-          added = λ z. absurd (n (e ∙ z));
-        }
-
-    pub moved : (g : Feed) (store' line' out' : List ℕ) → r ≡ 0 → running g store' line' out' ≡ new → line' ≡ newLine → Fed f g store' k
-        → Added f g out out'
-        → Moved (feed_refusal_of f store line out k) k f store line out new newLine (record { refusal = 0; feed = g }) store' line' out'
-    moved g store' line' out' z p q d a =
-        record {
-          refusal_is = sym z ∙ e;
-          refused = λ n. absurd (n (sym e ∙ z));
-          says = λ _. p;
-          line_is = λ _. q;
-          left = λ _. d;
-          added = λ _. a;
-        }
 
 -- ---- a chunk, and the end of the input as one byte
 pub not_closing : (chunk : List ℕ) → Closing false chunk

@@ -9,15 +9,9 @@ ghost use Rattle.street_transcript.specs.Between.{Moved, line_after_of, Closing,
 ghost use Rattle.street_feeds.specs.Between.{Open, Added, Fed};
 ghost use Rattle.street_feeds.specs.Program.{running, fed, closed};
 
+use refusal::Refusal;
 use street_feeds::Feed;
 use street_states::Head;
-
-// What a call on bytes hands back: the refusal, and the program afterwards.
-#[derive(Clone, Copy)]
-pub struct Progress {
-    pub refusal: u8,
-    pub feed: Feed,
-}
 
 // A chunk of the input, or its end, where there is room: the session and the rest of what is kept are two variables, so that a line that does
 // not change the session does not copy it. At the end the chunk is one byte, which is not kept.
@@ -114,45 +108,35 @@ fn take_lines(
     street_feeds::whole(last.session, head)
 }
 
-// A chunk of the input.
+// A chunk of the input: the program afterwards. Where it is refused the caller's stays as it is.
 pub fn feed_chunk(
     feed: Feed,
     store: &mut [u32],
     line: &mut [u8],
     chunk: &[u8],
     out: &mut [u8],
-) -> Progress
+) -> Result<Feed, Refusal>
     ensures { Moved (feed_refusal_of feed store.old line.old out.old (length chunk.now))
         (length chunk.now) feed store.old line.old out.old
         (fed (running feed store.old line.old out.old) chunk.now)
         (line_after_of (running feed store.old line.old out.old) line.old chunk.now)
         result store.new line.new out.new }
 {
-    let refusal = limits::open_refusal(feed, store, line, out, chunk.len());
-    if refusal != 0 {
-        return Progress { refusal, feed };
-    }
-    let after = take_lines(feed, store, line, chunk, false, out);
-    Progress {
-        refusal: 0,
-        feed: after,
-    }
+    limits::open_refusal(feed, store, line, out, chunk.len())?;
+    Ok(take_lines(feed, store, line, chunk, false, out))
 }
 
 // The end of the input ends a line that was begun.
-pub fn end_input(feed: Feed, store: &mut [u32], line: &mut [u8], out: &mut [u8]) -> Progress
+pub fn end_input(
+    feed: Feed,
+    store: &mut [u32],
+    line: &mut [u8],
+    out: &mut [u8],
+) -> Result<Feed, Refusal>
     ensures { Moved (feed_refusal_of feed store.old line.old out.old 1) 1 feed store.old
         line.old out.old (closed (running feed store.old line.old out.old))
         line.old result store.new line.new out.new }
 {
-    let refusal = limits::open_refusal(feed, store, line, out, 1);
-    if refusal != 0 {
-        return Progress { refusal, feed };
-    }
-    let end = [b'\n'];
-    let after = take_lines(feed, store, line, &end, true, out);
-    Progress {
-        refusal: 0,
-        feed: after,
-    }
+    limits::open_refusal(feed, store, line, out, 1)?;
+    Ok(take_lines(feed, store, line, b"\n", true, out))
 }

@@ -1,50 +1,39 @@
 // What is refused before a byte is looked at.
 ghost use Rattle.std.specs.Prelude.{◌≡◌};
 ghost use Rattle.refusal.specs.Refusal.{first};
+ghost use Rattle.refusal.specs.Numbers.{refused};
 ghost use Rattle.street_transcript.specs.Limits.{feed_tests, feed_refusal_of};
 
+use refusal::Refusal;
 use street_feeds::Feed;
 
-// The largest number of a line.
-const LAST_NUMBER: u64 = 18446744073709551615;
-
 // 5 of the lent line, of its bytes that count, and of the room for answers; 11 of the line numbers.
-fn feed_refusal<'a>(feed: Feed, line: &'a [u8], out: &'a [u8], count: usize) -> u8
-    ensures { result ≡ first (feed_tests feed line.now out.now count) }
+#[tactic(auto, using(crate::proofs::Admitting::line_missized, crate::proofs::Admitting::len_beyond, crate::proofs::Admitting::at_beyond, crate::proofs::Admitting::room_small, crate::proofs::Admitting::number_beyond, crate::proofs::Admitting::feed_fine))]
+fn feed_refusal(feed: Feed, line: &[u8], out: &[u8], count: usize) -> Result<(), Refusal>
+    ensures { refused result ≡ first (feed_tests feed line.now out.now count) }
 {
-    if line.len() != street_splitting::KEPT {
-        return 5;
-    }
-    if street_splitting::KEPT < feed.len {
-        return 5;
+    if line.len() != street_splitting::KEPT || street_splitting::KEPT < feed.len {
+        return Err(Refusal::BadLength);
     }
     let room = out.len();
-    if room < feed.at {
-        return 5;
+    if room < feed.at || (room - feed.at) / street_answers::LONGEST_PRINT < count {
+        return Err(Refusal::BadLength);
     }
-    if (room - feed.at) / street_answers::LONGEST_PRINT < count {
-        return 5;
+    if u64::MAX - feed.number < count as u64 {
+        return Err(Refusal::LineOutOfRange);
     }
-    if LAST_NUMBER - feed.number < count as u64 {
-        11
-    } else {
-        0
-    }
+    Ok(())
 }
 
 // The refusal of so many bytes more.
-pub fn open_refusal<'a>(
+pub fn open_refusal(
     feed: Feed,
-    store: &'a [u32],
-    line: &'a [u8],
-    out: &'a [u8],
+    store: &[u32],
+    line: &[u8],
+    out: &[u8],
     count: usize,
-) -> u8
-    ensures { result ≡ feed_refusal_of feed store.now line.now out.now count }
+) -> Result<(), Refusal>
+    ensures { refused result ≡ feed_refusal_of feed store.now line.now out.now count }
 {
-    let state = feed.state;
-    refusal::or_else(
-        street_steps::room_refusal(state, store),
-        feed_refusal(feed, line, out, count),
-    )
+    street_steps::room_refusal(feed.state, store).and(feed_refusal(feed, line, out, count))
 }

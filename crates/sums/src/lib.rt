@@ -13,8 +13,8 @@ use shape::Shape;
 fn add_to_each(sums: &mut [u32], c: u32)
     ensures { sums.new ≡ map (λ m. sum m c) sums.old }
 {
-    for i in 0..sums.len() {
-        sums[i] = field::add(sums[i], c);
+    for place in sums.iter_mut() {
+        *place = field::add(*place, c);
     }
 }
 
@@ -23,26 +23,28 @@ pub fn combine(scale: u32, x: &[u32], y: &[u32], out: &mut [u32])
     requires { (length x.now ≡ length out.old) × (length y.now ≡ length out.old) }
     ensures { out.new ≡ combined scale x.now y.now }
 {
-    for i in 0..out.len() {
-        out[i] = field::add_product(x[i], scale, y[i]);
+    for (i, place) in out.iter_mut().enumerate() {
+        *place = field::add_product(x[i], scale, y[i]);
     }
 }
 
 // c added to the public sums of a row, which are its last n numbers.
+#[tactic(auto, using(session::proofs::RowLaws::sums_put), unfolding(session::specs::Rows::plus_sums))]
 pub fn add_to_sums(shape: Shape, rows: &mut [u32], row: usize, c: u32)
     requires { Sized shape rows.old × RowIn shape row }
     ensures { rows.new
         ≡ with_row (row_length shape) row (plus_sums (sums_at_of shape) c (row_at (row_length shape) rows.old row))
         rows.old }
 {
-    let n = shape.n;
     let start = session::rows::row_at(shape, row);
     let from = start + shape.sums_at();
-    let end = from + n;
+    let end = from + shape.n;
     add_to_each(&mut rows[from..end], c);
 }
 
-// Row a plus scale times row b, number by number, in the place of row dest, which may be one of them.
+// Row a plus scale times row b, number by number, in the place of row dest, which may be one of them: so all three are read and written
+// by their places in one list.
+#[tactic(auto, using(crate::proofs::Within::within_start))]
 fn combine_rows(shape: Shape, rows: &mut [u32], dest: usize, a: usize, b: usize, scale: u32)
     requires { Sized shape rows.old × RowIn shape dest × RowIn shape a × RowIn shape b }
     ensures { rows.new
@@ -59,6 +61,7 @@ fn combine_rows(shape: Shape, rows: &mut [u32], dest: usize, a: usize, b: usize,
 }
 
 // Row a plus scale times row b, in the place of row dest, with a fee added to its public sums: linear's sum, and a product's.
+#[tactic(auto, using(crate::proofs::Summed::sum_without_fee, crate::proofs::Summed::sum_with_fee))]
 pub fn sum_rows(
     shape: Shape,
     rows: &mut [u32],
@@ -74,8 +77,7 @@ pub fn sum_rows(
         (row_at (row_length shape) rows.old b)) rows.old }
 {
     combine_rows(shape, rows, dest, a, b, scale);
-    if fee == 0 {
-        return;
+    if fee != 0 {
+        add_to_sums(shape, rows, dest, fee);
     }
-    add_to_sums(shape, rows, dest, fee);
 }

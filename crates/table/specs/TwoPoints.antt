@@ -1,8 +1,9 @@
 -- Document 02, (ix), reckoned by hand, as P1 to P10 are for one check point: n = 3, t = 1, check points 2 and 4, 3 and 5, 5 and 7;
 -- f = 7 + 4z; v1 = 1 + 2z + zz, v2 = 3 + z + 2zz, v3 = 5 + 6z + 3zz.
-use Rattle.std.specs.Prelude.{ℕ, ◌+◌, ◌≡◌, true, false, List, [], ◌∷◌, ◌++◌, get_or, replicate}
+use Rattle.std.specs.Prelude.{ℕ, ◌+◌, ◌≡◌, true, false, Ok, Err, List, [], ◌∷◌, ◌++◌, get_or, replicate}
 use Rattle.poly.specs.Polynomial.{value}
 use Rattle.shape.specs.declared.Points.{Points}
+use Rattle.refusal.specs.declared.Refusal.TheVariants.{TooFewAccepted}
 use Rattle.factory.specs.Calls.{dealer_number_of, factory_row_refusal, factory_row_out}
 use Rattle.session.specs.declared.Session.{Session}
 use Rattle.session.specs.declared.Answer.{Answer}
@@ -101,9 +102,9 @@ pub record TwoPoints : Type 0 where
   -- the shares are those of P8, and t+1 accepted posts give 100
   pub share2 : share session1 (dealt session1 row1) (from_post2 3 1 2) 2 ≡ 108
   pub by : accepted_posts session1 (dealt session1 row1) (from_post2 3 1 2) ≡ 1 ∷ 2 ∷ []
-  pub gives : opened_row session1 (dealt session1 row1) (from_post2 3 1 2) ≡ record { refusal = 0; value = 100 }
-  pub all_give : opened_row session1 (dealt session1 row1) from_both ≡ record { refusal = 0; value = 100 }
-  pub too_few : opened_row session1 (dealt session1 row1) (from_post2 13 0 0) ≡ record { refusal = 9; value = 0 }
+  pub gives : opened_row session1 (dealt session1 row1) (from_post2 3 1 2) ≡ Ok 100
+  pub all_give : opened_row session1 (dealt session1 row1) from_both ≡ Ok 100
+  pub too_few : opened_row session1 (dealt session1 row1) (from_post2 13 0 0) ≡ Err TooFewAccepted
   -- "Messages have 2t+1 coefficients, and the list of a line read twice that"
   pub line : text (opening 0 2 (3 ∷ 1 ∷ 2 ∷ [])) ≡ opening_line
   pub line_read : line_as (read_refusal 3 1 2 opening_line lent) (message 3 opening_line) ≡ record { refusal = 0; letter = 79; row = 0; post = 2 }

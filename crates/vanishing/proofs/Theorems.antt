@@ -2,11 +2,11 @@
 use Prim.Native.Nat.{ℕ, zero, suc, ◌≤◌, ◌<◌}
 use mathlib.Core.Path.{◌≡◌, refl, sym, ◌∙◌, ap}
 use mathlib.Core.Logic.{◌≢◌}
-use mathlib.Core.List.{List, [], ◌∷◌, map}
+use mathlib.Core.List.{List, [], ◌∷◌}
 use native.Mathlib.Omega.{arith}
 use lib.Dec.{lit<, lit≤}
 use lib.ListN.{length, get_or}
-use Rattle.field.specs.Element.{Element, element, 0ᴱ, 1ᴱ}
+use Rattle.field.specs.Element.{Element, element, 0ᴱ}
 use Rattle.field.proofs.Elements.{𝓡, element_zero, element_one, element_injective}
 use Rattle.poly.specs.Polynomial.{value}
 use Rattle.poly.specs.Counting.{All, Elements}

@@ -1,19 +1,18 @@
 -- The value of a product of 1 − z/x: one at 0, and zero at each x. The coefficients behind as many as there are factors are zero.
 use Prim.Native.Nat.{ℕ, zero, suc, ◌+◌, ◌-◌, ◌%◌, ◌≤◌, ◌<◌}
-use mathlib.Core.Path.{◌≡◌, refl, sym, ◌∙◌, ap, ap₂, subst}
+use mathlib.Core.Path.{◌≡◌, refl, ◌∙◌, ap, ap₂, subst}
 use mathlib.Core.Logic.{◌≢◌}
-use mathlib.Core.List.{List, [], ◌∷◌, ◌++◌, map}
+use mathlib.Core.List.{List, [], ◌∷◌}
 use native.Mathlib.Nat.{mul-zero as mul-zero-nat}
 use native.Mathlib.Omega.{arith}
-use lib.ListN.{length, take, drop, replicate, length-replicate}
+use lib.ListN.{length, replicate, length-replicate}
 use Rattle.field.specs.Modulus.{p}
-use Rattle.field.specs.Arithmetic.{sum, difference, product, inverse}
+use Rattle.field.specs.Arithmetic.{difference, product, inverse}
 use Rattle.field.specs.Element.{Element, element}
-use Rattle.field.proofs.Modular.{sum_below, difference_below}
-use Rattle.field.proofs.Ring.{mul_zero, zero_mul}
+use Rattle.field.proofs.Ring.{mul_zero}
 use Rattle.field.proofs.Expression.{A, B, C, D, E, F, 𝟘, 𝟙, ◌:+◌, ◌:*◌, ◌:-◌, :-◌, Same}
 use Rattle.field.proofs.Solver.{solve}
-use Rattle.field.proofs.Elements.{elements, 𝓡, element_zero, element_one, element_sum, element_product, element_difference, element_inverse, element_injective}
+use Rattle.field.proofs.Elements.{elements, 𝓡, element_zero, element_one, element_product, element_difference, element_inverse}
 use Rattle.poly.specs.Counting.{All}
 use Rattle.poly.proofs.Lists.{all_map}
 use Rattle.poly.proofs.Coefficients.{ev}

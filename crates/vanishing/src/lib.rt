@@ -6,7 +6,7 @@
 // The time depends on the numbers, the inverse of whose product is taken: they are for public values only.
 #![tactic(auto)]
 
-ghost use Rattle.std.specs.Prelude.{◌≡◌, cond, ◌||◌, map, ◌≤◌, ◌<◌, eqb, length, get_or, drop};
+ghost use Rattle.std.specs.Prelude.{◌≡◌, cond, map, ◌≤◌, ◌<◌, length, get_or};
 ghost use Rattle.field.specs.Modulus.{p};
 ghost use Rattle.field.specs.Arithmetic.{product, inverse};
 ghost use Rattle.vanishing.specs.Vanishing.{one, vanishing, occurs, distinct};
@@ -28,19 +28,21 @@ fn line_at(k: u32, c: u32, b: u32) -> u32
 }
 
 // Times z + k, in place.
+#[tactic(auto, using(crate::proofs::Turns::read_low, crate::proofs::Turns::before_low))]
 fn times_line(k: u32, list: &mut [u32])
     requires { (k < p) × Low list.old }
     ensures { list.new ≡ times_line_of k 0 list.old }
 {
     let mut before: u32 = 0;
-    for i in 0..list.len() {
-        let c = list[i];
-        list[i] = line_at(k, c, before);
+    for place in list.iter_mut() {
+        let c = *place;
+        *place = line_at(k, c, before);
         before = c;
     }
 }
 
 // Times z - x, of a list that has nothing behind its first m coefficients: the product has nothing behind m + 1.
+#[tactic(auto, using(crate::proofs::Turns::negative_low, crate::proofs::Turns::part_low, crate::proofs::Turns::whole_factor, crate::proofs::Turns::short_factor, crate::proofs::Turns::part_lent))]
 fn times_factor(x: u32, m: usize, list: &mut [u32])
     requires { (1 ≤ m) × Ends m list.old × Low list.old }
     ensures { list.new ≡ times_factor_of x list.old }
@@ -55,6 +57,7 @@ fn times_factor(x: u32, m: usize, list: &mut [u32])
 }
 
 // The constant 1.
+#[tactic(auto, using(crate::proofs::Turns::one_start))]
 fn start(list: &mut [u32])
     requires { 1 ≤ length list.old }
     ensures { list.new ≡ one (length list.old) }
@@ -69,64 +72,55 @@ fn divide(list: &mut [u32])
     ensures { list.new ≡ map (product (inverse (get_or list.old 0 0))) list.old }
 {
     let k = field::inverse(list[0]);
-    for i in 0..list.len() {
-        list[i] = field::mul(k, list[i]);
+    for c in list.iter_mut() {
+        *c = field::mul(k, *c);
     }
 }
 
 // The product over the numbers.
+#[tactic(auto, using(crate::proofs::Turns::one_room, crate::proofs::Turns::start_ends, crate::proofs::Turns::start_low))]
 pub fn vanish_at(numbers: &[u32], list: &mut [u32])
     requires { (1 ≤ length list.old) × Nonzero numbers.now }
     ensures { list.new ≡ vanishing (length list.old) numbers.now }
 {
     start(list);
-    for i in 0..numbers.len() {
-        times_factor(numbers[i], i + 1, list);
+    for (i, x) in numbers.iter().enumerate() {
+        times_factor(*x, i + 1, list);
     }
     divide(list);
 }
 
-// Whether a number was found, or is found now.
-fn found_now(found: bool, x: u32, y: u32) -> bool
-    ensures { result ≡ (found || eqb x y) }
-{
-    if x == y {
-        return true;
-    }
-    found
-}
-
-// Whether x is among the numbers from `from` on. All are looked at, so that the compiler looks at several at once.
-fn occurs(x: u32, from: usize, list: &[u32]) -> bool
-    ensures { result ≡ occurs x (drop from list.now) }
+// Whether x is among the numbers. All are looked at, so that the compiler looks at several at once; `contains` would stop at the first.
+fn occurs(x: u32, list: &[u32]) -> bool
+    ensures { result ≡ occurs x list.now }
 {
     let mut found = false;
-    for i in from..list.len() {
-        found = found_now(found, x, list[i]);
+    for y in list {
+        found |= x == *y;
     }
     found
 }
 
-// Times z - x, where x is not among the numbers from `from` on; the list has nothing behind so many coefficients.
-fn times_factor_once(x: u32, from: usize, numbers: &[u32], list: &mut [u32])
-    requires { (1 ≤ from) × Ends from list.old × Low list.old }
-    ensures { list.new
-        ≡ cond (occurs x (drop from numbers.now)) list.old (times_factor_of x list.old) }
+// Times z - x, where x is not among the numbers to come; the list has nothing behind its first m coefficients.
+#[tactic(auto, using(crate::proofs::Turns::once_occurs, crate::proofs::Turns::once_new))]
+fn times_factor_once(x: u32, m: usize, rest: &[u32], list: &mut [u32])
+    requires { (1 ≤ m) × Ends m list.old × Low list.old }
+    ensures { list.new ≡ cond (occurs x rest.now) list.old (times_factor_of x list.old) }
 {
-    if occurs(x, from, numbers) {
-        return;
+    if !occurs(x, rest) {
+        times_factor(x, m, list);
     }
-    times_factor(x, from, list);
 }
 
 // The product over each number once.
+#[tactic(auto, using(crate::proofs::Turns::one_room, crate::proofs::Turns::start_ends, crate::proofs::Turns::start_low))]
 pub fn vanish_at_each(numbers: &[u32], list: &mut [u32])
     requires { (1 ≤ length list.old) × Nonzero numbers.now }
     ensures { list.new ≡ vanishing (length list.old) (distinct numbers.now) }
 {
     start(list);
-    for i in 0..numbers.len() {
-        times_factor_once(numbers[i], i + 1, numbers, list);
+    for (i, x) in numbers.iter().enumerate() {
+        times_factor_once(*x, i + 1, &numbers[i + 1..], list);
     }
     divide(list);
 }

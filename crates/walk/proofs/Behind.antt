@@ -2,14 +2,13 @@
 use Prim.Native.Nat.{ℕ, zero, suc, ◌+◌, ◌-◌, ◌≤◌, ◌<◌}
 use mathlib.Core.Path.{◌≡◌, refl, sym, ◌∙◌, ap}
 use mathlib.Core.Bool.{Bool, true, false}
+use Rattle.std.specs.Prelude.{Option, None, Some}
 use mathlib.Core.List.{List, [], ◌∷◌, ◌++◌, map, append_assoc, append-nil}
 use native.Mathlib.Numerals.{add-one}
 use native.Mathlib.Omega.{arith}
 use lib.ListN.{length, take, drop, set, length-set}
 use lib.Seq.{take-suc-set}
 use Rattle.session.specs.declared.Party.{Party}
-use Rattle.walk.specs.declared.Walk.{Walk}
-use Rattle.walk.specs.declared.Walk.TheVariants.{Enough, TooFew}
 use Rattle.accepting.specs.Accepting.{passing, accepts, share}
 use Rattle.walk.specs.Number.{walk_end_of}
 use Rattle.walk.specs.Between.{BehindIn, FurtherAs}
@@ -126,9 +125,9 @@ module _ (q : Party) (row blocks : List ℕ) (need last : ℕ) (p₀ q₀ : List
       record { count_in_is = (w.count_from_is, omega (arith, w.count_to, w.j_to)); posts_are = got.0; shares_are = got.1 }
 
 -- where the first walk stops: at or behind the need-th post, and all that pass behind it are the further ones
-abbrev pub Behind : Walk → (ℕ → Bool) → ℕ → ℕ → ℕ → List ℕ → Type 0
-Behind TooFew test j k need l = Unit {0}
-Behind (Enough e) test j k need l =
+abbrev pub Behind : Option ℕ → (ℕ → Bool) → ℕ → ℕ → ℕ → List ℕ → Type 0
+Behind None test j k need l = Unit {0}
+Behind (Some e) test j k need l =
     (need + j ≤ suc e) × (suc e ≤ j + k) × (drop need l ≡ passing test (suc e) (j + k - suc e))
 
 pub end_behind : (test : ℕ → Bool) (j k need : ℕ) → 1 ≤ j → Behind (walk_end_of test j k need) test j k need (passing test j k)
@@ -144,17 +143,17 @@ end_behind test j (suc k) (suc need) h =
     swap : (e : ℕ) → suc j + k - e ≡ j + suc k - e
     swap e = omega arith
 
-    one_more : (w : Walk) (l : List ℕ) → Behind w test (suc j) k need l → Behind w test j (suc k) (suc need) (j ∷ l)
-    one_more TooFew l b = tt
-    one_more (Enough e) l b = (omega (arith, b.0), omega (arith, b.1), b.2 ∙ ap (passing test (suc e)) (swap (suc e)))
+    one_more : (w : Option ℕ) (l : List ℕ) → Behind w test (suc j) k need l → Behind w test j (suc k) (suc need) (j ∷ l)
+    one_more None l b = tt
+    one_more (Some e) l b = (omega (arith, b.0), omega (arith, b.1), b.2 ∙ ap (passing test (suc e)) (swap (suc e)))
 
-    on : (w : Walk) (l : List ℕ) → Behind w test (suc j) k (suc need) l → Behind w test j (suc k) (suc need) l
-    on TooFew l b = tt
-    on (Enough e) l b = (omega (arith, b.0), omega (arith, b.1), b.2 ∙ ap (passing test (suc e)) (swap (suc e)))
+    on : (w : Option ℕ) (l : List ℕ) → Behind w test (suc j) k (suc need) l → Behind w test j (suc k) (suc need) l
+    on None l b = tt
+    on (Some e) l b = (omega (arith, b.0), omega (arith, b.1), b.2 ∙ ap (passing test (suc e)) (swap (suc e)))
 
     go : (b : Bool) → Behind (walk_end_of test (suc j) k need) test (suc j) k need (passing test (suc j) k)
         → Behind (walk_end_of test (suc j) k (suc need)) test (suc j) k (suc need) (passing test (suc j) k)
-        → Behind (elim b as (λ z. Walk) [ true ↦ walk_end_of test (suc j) k need | false ↦ walk_end_of test (suc j) k (suc need) ]) test j (suc k)
+        → Behind (elim b as (λ z. Option ℕ) [ true ↦ walk_end_of test (suc j) k need | false ↦ walk_end_of test (suc j) k (suc need) ]) test j (suc k)
         (suc need) (elim b as (λ z. List ℕ) [ true ↦ j ∷ passing test (suc j) k | false ↦ passing test (suc j) k ])
     go true a c = one_more (walk_end_of test (suc j) k need) (passing test (suc j) k) a
     go false a c = on (walk_end_of test (suc j) k (suc need)) (passing test (suc j) k) c

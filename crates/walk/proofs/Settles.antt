@@ -2,6 +2,7 @@
 use Prim.Native.Nat.{ℕ, suc, ◌+◌, ◌-◌, ◌≤◌}
 use mathlib.Core.Path.{◌≡◌, refl, sym, ◌∙◌, ap, ap₂}
 use mathlib.Core.Bool.{Bool, true, false, not}
+use Rattle.std.specs.Prelude.{Option, None, Some, Result, Ok, Err}
 use mathlib.Core.List.{List, [], ◌∷◌, ◌++◌, map}
 use native.Mathlib.Omega.{arith}
 use borrow.Author.Tests.{lt-ltb, le-ltb}
@@ -11,12 +12,10 @@ use Rattle.agreement.specs.Agreement as Found
 use Rattle.agreement.specs.Agreement.{all_agree}
 use Rattle.agreement.specs.Sums.{Reached}
 use Rattle.poly.specs.Interpolation.{interpolated}
-use Rattle.refusal.specs.Refusal.{◌when◌, first, outcome}
 use Rattle.shape.specs.Lengths.{needed}
 use Rattle.session.specs.declared.Party.{Party}
-use Rattle.walk.specs.declared.Walk.{Walk}
-use Rattle.walk.specs.declared.Opened.{Opened}
-use Rattle.walk.specs.declared.Walk.TheVariants.{Enough, TooFew}
+use Rattle.refusal.specs.declared.Refusal.{Refusal}
+use Rattle.refusal.specs.declared.Refusal.TheVariants.{TooFewAccepted, InconsistentShares}
 use Rattle.accepting.specs.Accepting.{passing, accepts, share, accepted_posts, accepted, further, too_few_of, disagree, opened}
 use Rattle.walk.specs.Number.{or_nine, opened_row, outcome_of, answer_of}
 use Rattle.walk.specs.Between.{WalkedAs, BehindIn, FurtherAs, agreed_on}
@@ -28,10 +27,10 @@ use Rattle.walk.proofs.Upward.{passing_rises, passing_last}
 
 -- what the agreement found
 module _ (xs ys zs ws : List ℕ) (v : ℕ) (a : Bool) (f : Found.Settles xs ys zs ws v a) where
-  pub agreed_number : a ≡ true → record { refusal = 0; value = v } ≡ agreed_on xs ys zs ws
+  pub agreed_number : a ≡ true → Ok v ≡ agreed_on xs ys zs ws
   agreed_number e = let h : all_agree xs ys zs ws ≡ true = sym f.1 ∙ e in rw (h, ← f.0)
 
-  pub agreed_off : a ≡ false → record { refusal = 13; value = 0 } ≡ agreed_on xs ys zs ws
+  pub agreed_off : a ≡ false → Err InconsistentShares ≡ agreed_on xs ys zs ws
   agreed_off e = let h : all_agree xs ys zs ws ≡ false = sym f.1 ∙ e in rw h
 
 module _ (q : Party) (row blocks : List ℕ) where
@@ -50,16 +49,16 @@ module _ (q : Party) (row blocks : List ℕ) where
   behind : Behind (outcome_of q row blocks) (accepts q row blocks) 1 n need (passing (accepts q row blocks) 1 n)
   behind = end_behind (accepts q row blocks) 1 n need (omega arith)
 
-  module _ (end : Walk) (last : ℕ) (ee : end ≡ Enough last) (p₀ q₀ : List ℕ) (w : WalkedAs q row blocks end p₀ q₀) where
-    ended : outcome_of q row blocks ≡ Enough last
+  module _ (end : Option ℕ) (last : ℕ) (ee : end ≡ Some last) (p₀ q₀ : List ℕ) (w : WalkedAs q row blocks end p₀ q₀) where
+    ended : outcome_of q row blocks ≡ Some last
     ended = sym w.ended ∙ ee
 
     many : length lowest ≡ need
-    many = let h : Counted (Enough last) (length lowest) need = rw ended at (counted q row blocks) in h
+    many = let h : Counted (Some last) (length lowest) need = rw ended at (counted q row blocks) in h
 
     stopped : (need + 1 ≤ suc last) × (suc last ≤ 1 + n) × (drop need (passing (accepts q row blocks) 1 n) ≡ passing (accepts q row blocks) (suc last) (1 + n - suc last))
     stopped =
-        let h : Behind (Enough last) (accepts q row blocks) 1 n need (passing (accepts q row blocks) 1 n) = rw ended at behind in h
+        let h : Behind (Some last) (accepts q row blocks) 1 n need (passing (accepts q row blocks) 1 n) = rw ended at behind in h
 
     pub behind_in : (k : ℕ) → k ≡ need → n ≤ length p₀ → n ≤ length q₀ → BehindIn n k last p₀ q₀
     behind_in k e hp hq = record { behind = (omega (arith, stopped.0), omega (arith, stopped.1)); posts_room = hp; shares_room = hq }
@@ -113,14 +112,14 @@ module _ (q : Party) (row blocks : List ℕ) where
         enough = enough_in;
       }
 
-      pub opens_agreed : (r : Opened)
+      pub opens_agreed : (r : Result ℕ Refusal)
           → r ≡ agreed_on (take k (take count p)) (take k (take count q₁)) (drop k (take count p)) (drop k (take count q₁))
           → r ≡ answer_of end (disagree q row blocks) (opened q row blocks)
       unfolding opened disagree
       opens_agreed r e =
           e
           ∙ (rw (low, low_shares, high, high_shares))
-          ∙ ap (λ (w : Walk). answer_of w (disagree q row blocks) (opened q row blocks)) (sym ee)
+          ∙ ap (λ (w : Option ℕ). answer_of w (disagree q row blocks) (opened q row blocks)) (sym ee)
         where
           low : take k (take count p) ≡ lowest
           low = ap (take k) posts_are ∙ take_at lowest rest k some
@@ -134,25 +133,8 @@ module _ (q : Party) (row blocks : List ℕ) where
           high_shares : drop k (take count q₁) ≡ shares rest
           high_shares = ap (drop k) shares_are ∙ drop_at (shares lowest) (shares rest) k paired
 
-  pub opens_few : (end : Walk) → end ≡ TooFew → record { refusal = 9; value = 0 } ≡ answer_of end (disagree q row blocks) (opened q row blocks)
-  opens_few end e = ap (λ (w : Walk). answer_of w (disagree q row blocks) (opened q row blocks)) (sym e)
-
--- the opening of a row, by the tests of 9 and 13
-abbrev pub opening_of : ℕ → ℕ → Opened
-opening_of k v = outcome k (record { refusal = 0; value = v }) (record { refusal = k; value = 0 })
-
-abbrev pub decided : Bool → Bool → ℕ → Opened
-decided few off v = opening_of (first (9 when few ∷ 13 when off ∷ [])) v
-
-pub opened_decided : (q : Party) (row blocks : List ℕ)
-    → opened_row q row blocks ≡ decided (too_few_of q row blocks) (disagree q row blocks) (opened q row blocks)
-unfolding outcome
-opened_decided q row blocks = go (too_few_of q row blocks) (disagree q row blocks)
-  where
-    go : (few off : Bool) → or_nine few off (opened q row blocks) ≡ decided few off (opened q row blocks)
-    go true off = refl
-    go false true = refl
-    go false false = refl
+  pub opens_few : (end : Option ℕ) → end ≡ None → Err TooFewAccepted ≡ answer_of end (disagree q row blocks) (opened q row blocks)
+  opens_few end e = ap (λ (w : Option ℕ). answer_of w (disagree q row blocks) (opened q row blocks)) (sym e)
 
 -- by the walk's two cases
 pub outcome_answers : OutcomeAnswers
@@ -164,15 +146,15 @@ outcome_answers q row blocks = go (outcome_of q row blocks) (counted q row block
     number : ℕ
     number = opened q row blocks
 
-    go : (end : Walk) → Counted end (length (accepted_posts q row blocks)) (needed q.shape)
+    go : (end : Option ℕ) → Counted end (length (accepted_posts q row blocks)) (needed q.shape)
         → or_nine (too_few_of q row blocks) off number ≡ answer_of end off number
-    go TooFew h = rw (lt-ltb (length (accepted_posts q row blocks)) (needed q.shape) h)
-    go (Enough last) h =
+    go None h = rw (lt-ltb (length (accepted_posts q row blocks)) (needed q.shape) h)
+    go (Some last) h =
         let same : length (accepted_posts q row blocks) ≡ needed q.shape = h in
         rw (le-ltb (length (accepted_posts q row blocks)) (needed q.shape) (omega arith))
 
 -- what the walk's outcome answers is what the row opens to
-pub row_settled : (q : Party) (row blocks : List ℕ) (end : Walk) (posts shares : List ℕ) → WalkedAs q row blocks end posts shares
-    → (r : Opened) → r ≡ answer_of end (disagree q row blocks) (opened q row blocks) → r ≡ opened_row q row blocks
+pub row_settled : (q : Party) (row blocks : List ℕ) (end : Option ℕ) (posts shares : List ℕ) → WalkedAs q row blocks end posts shares
+    → (r : Result ℕ Refusal) → r ≡ answer_of end (disagree q row blocks) (opened q row blocks) → r ≡ opened_row q row blocks
 row_settled q row blocks end posts shares w r e =
-    e ∙ ap (λ (o : Walk). answer_of o (disagree q row blocks) (opened q row blocks)) w.ended ∙ sym (outcome_answers q row blocks)
+    e ∙ ap (λ (o : Option ℕ). answer_of o (disagree q row blocks) (opened q row blocks)) w.ended ∙ sym (outcome_answers q row blocks)

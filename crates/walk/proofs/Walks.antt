@@ -2,6 +2,7 @@
 use Prim.Native.Nat.{ℕ, zero, suc, ◌+◌, ◌-◌, ◌≤◌, ◌<◌}
 use mathlib.Core.Path.{◌≡◌, refl, sym, ◌∙◌, ap}
 use mathlib.Core.Bool.{Bool, true, false}
+use Rattle.std.specs.Prelude.{Option, None, Some}
 use mathlib.Core.List.{List, [], ◌∷◌, ◌++◌, map, append_assoc, append-nil}
 use native.Mathlib.Numerals.{add-one}
 use native.Mathlib.Omega.{arith}
@@ -9,8 +10,6 @@ use lib.ListN.{length, take, set, length-set, length-map}
 use lib.Seq.{take-suc-set, length-take-le}
 use Rattle.shape.specs.Lengths.{needed}
 use Rattle.session.specs.declared.Party.{Party}
-use Rattle.walk.specs.declared.Walk.{Walk}
-use Rattle.walk.specs.declared.Walk.TheVariants.{Enough, TooFew}
 use Rattle.accepting.specs.Accepting.{walk, accepts, share, accepted_posts}
 use Rattle.walk.specs.Number.{walk_end_of, outcome_of}
 use Rattle.walk.specs.Between.{WalkedAs}
@@ -152,7 +151,7 @@ module _ (test : ℕ → Bool) (f : ℕ → ℕ) (n need a b : ℕ) where
 
   pub walking_enough : (p q : List ℕ) (c j : ℕ) → At p q c j → c ≡ need
       → (take (length (walk test 1 n need)) p ≡ walk test 1 n need) × (take (length (walk test 1 n need)) q ≡ map f (walk test 1 n need))
-      × (Enough (j - 1) ≡ walk_end_of test 1 n need)
+      × (Some (j - 1) ≡ walk_end_of test 1 n need)
   unfolding walk_end_of
   walking_enough p q c j s e =
       let got = collected p q c j s (ap (walk test j (n + 1 - j)) zero_left ∙ no_more j (n + 1 - j)) in
@@ -163,7 +162,7 @@ module _ (test : ℕ → Bool) (f : ℕ → ℕ) (n need a b : ℕ) where
 
   pub walking_few : (p q : List ℕ) (c j : ℕ) → At p q c j → (c ≡ need → ⊥) → n < j
       → (take (length (walk test 1 n need)) p ≡ walk test 1 n need) × (take (length (walk test 1 n need)) q ≡ map f (walk test 1 n need))
-      × (TooFew ≡ walk_end_of test 1 n need)
+      × (None ≡ walk_end_of test 1 n need)
   unfolding walk_end_of
   walking_few p q c j s ne h =
       let got = collected p q c j s (ap (λ (k : ℕ). walk test j k (need - c)) no_post ∙ none_left j (need - c)) in
@@ -204,20 +203,26 @@ module _ (q : Party) (row blocks : List ℕ) (a b need : ℕ) (en : need ≡ nee
         → x' ≡ x → y' ≡ y → c' ≡ c → In x' y' c' (j + 1)
     party_skip x x' y y' c' ok w = walking_skip Test Share n k a b x x' y y' c c' j ok w more
 
-    pub party_few : (x y : List ℕ) → In x y c j → n < j → WalkedAs q row blocks TooFew x y
+    pub party_few : (x y : List ℕ) → In x y c j → n < j → WalkedAs q row blocks None x y
     party_few x y w h =
         let got = walking_few Test Share n k a b x y c j w more h in
         record { ended = got.2; posts_are = got.0; shares_are = got.1; posts_room = omega (arith, w.fits, w.posts_room); shares_room = omega (arith, w.fits, w.shares_room) }
 
-  pub party_enough : (x y : List ℕ) (c j : ℕ) → In x y c j → c ≡ need → WalkedAs q row blocks (Enough (j - 1)) x y
+  pub party_enough : (x y : List ℕ) (c j : ℕ) → In x y c j → c ≡ need → WalkedAs q row blocks (Some (j - 1)) x y
   party_enough x y c j w e =
       let got = walking_enough Test Share n k a b x y c j w (e ∙ en) in
       record { ended = got.2; posts_are = got.0; shares_are = got.1; posts_room = omega (arith, w.fits, w.posts_room); shares_room = omega (arith, w.fits, w.shares_room) }
 
+  -- the walk stops behind the post that was accepted last
+  pub party_full : (x y : List ℕ) (c j : ℕ) → In x y c (j + 1) → c ≡ need → WalkedAs q row blocks (Some j) x y
+  party_full x y c j w e =
+      let back : j + 1 - 1 ≡ j = omega arith in
+      rw back at (party_enough x y c (j + 1) w e)
+
 -- the outcome says how many were accepted
-abbrev pub Counted : Walk → ℕ → ℕ → Type 0
-Counted (Enough j) accepted need = accepted ≡ need
-Counted TooFew accepted need = accepted < need
+abbrev pub Counted : Option ℕ → ℕ → ℕ → Type 0
+Counted (Some j) accepted need = accepted ≡ need
+Counted None accepted need = accepted < need
 
 end_counts : (test : ℕ → Bool) (j k need : ℕ) → Counted (walk_end_of test j k need) (length (walk test j k need)) need
 unfolding walk walk_end_of
@@ -226,13 +231,13 @@ end_counts test j (suc k) zero = refl
 end_counts test j zero (suc need) = omega arith
 end_counts test j (suc k) (suc need) = go (test j) (end_counts test (suc j) k need) (end_counts test (suc j) k (suc need))
   where
-    one_more : (w : Walk) (l : ℕ) → Counted w l need → Counted w (suc l) (suc need)
-    one_more (Enough i) l h = ap suc h
-    one_more TooFew l h = omega arith
+    one_more : (w : Option ℕ) (l : ℕ) → Counted w l need → Counted w (suc l) (suc need)
+    one_more (Some i) l h = ap suc h
+    one_more None l h = omega arith
 
     go : (b : Bool) → Counted (walk_end_of test (suc j) k need) (length (walk test (suc j) k need)) need
         → Counted (walk_end_of test (suc j) k (suc need)) (length (walk test (suc j) k (suc need))) (suc need)
-        → Counted (elim b as (λ z. Walk) [ true ↦ walk_end_of test (suc j) k need | false ↦ walk_end_of test (suc j) k (suc need) ])
+        → Counted (elim b as (λ z. Option ℕ) [ true ↦ walk_end_of test (suc j) k need | false ↦ walk_end_of test (suc j) k (suc need) ])
         (length {A = ℕ} (elim b as (λ z. List ℕ) [ true ↦ j ∷ walk test (suc j) k need | false ↦ walk test (suc j) k (suc need) ]))
         (suc need)
     go true h g = one_more (walk_end_of test (suc j) k need) (length (walk test (suc j) k need)) h

@@ -1,6 +1,7 @@
 -- Between the functions of the code: what each walk hands on, and what is lent to them. No theorem is stated
 -- with these.
-use Rattle.std.specs.Prelude.{ℕ, suc, ◌-◌, ◌≤◌, ◌≡◌, not, List, ◌++◌, map, length, take}
+use Rattle.std.specs.Prelude.{ℕ, suc, ◌-◌, ◌≤◌, ◌≡◌, not, Option, Result, List, ◌++◌, map, length, take}
+use Rattle.refusal.specs.declared.Refusal.{Refusal}
 use Rattle.poly.specs.Interpolation.{interpolated}
 use Rattle.agreement.specs.Agreement.{all_agree}
 use Rattle.agreement.specs.Sums.{Rooms}
@@ -8,12 +9,10 @@ use Rattle.shape.specs.declared.Shape.{Shape}
 use Rattle.shape.specs.Lengths.{needed}
 use Rattle.session.specs.declared.Party.{Party}
 use Rattle.accepting.specs.Accepting.{accepts, share, passing, accepted_posts}
-use Rattle.walk.specs.declared.Walk.{Walk}
-use Rattle.walk.specs.declared.Opened.{Opened}
 use Rattle.walk.specs.Number.{or_thirteen, outcome_of}
 
 -- What the walk hands on: its outcome, and the accepted posts and their shares at the start of two lists.
-pub record WalkedAs (q : Party) (row blocks : List ℕ) (end : Walk) (posts shares : List ℕ) : Type 0 where
+pub record WalkedAs (q : Party) (row blocks : List ℕ) (end : Option ℕ) (posts shares : List ℕ) : Type 0 where
   pub ended : end ≡ outcome_of q row blocks
   pub posts_are : take (length (accepted_posts q row blocks)) posts ≡ accepted_posts q row blocks
   pub shares_are : take (length (accepted_posts q row blocks)) shares ≡ map (share q row blocks) (accepted_posts q row blocks)
@@ -33,7 +32,7 @@ pub record FurtherAs (q : Party) (row blocks : List ℕ) (need last : ℕ) (post
   pub shares_are : take count shares ≡ take need shares₀ ++ map (share q row blocks) (passing (accepts q row blocks) (suc last) (q.shape.n - last))
 
 -- The number through values at nodes, or 13, by further values at further nodes.
-abbrev pub agreed_on : List ℕ → List ℕ → List ℕ → List ℕ → Opened
+abbrev pub agreed_on : List ℕ → List ℕ → List ℕ → List ℕ → Result ℕ Refusal
 agreed_on xs ys zs ws = or_thirteen (not (all_agree xs ys zs ws)) (interpolated xs ys 0)
 
 -- What is lent to an opening: a table of inverses that reaches every post, and rooms.

@@ -1,29 +1,31 @@
 -- A turn reads one field more of the same line; behind the last nothing is left to say.
-use Rattle.std.proofs.Common.{◌≡◌, ◌<◌, ◌≤◌, ap, ◌∙◌, arith}
-use Rattle.csv_fields.specs.Walk.{counted, comma_field_of}
-use Rattle.csv_fields.proofs.Passing.{Passed, passed_further, passed_all, step_line, step_field, step_at}
+use Rattle.std.proofs.Common.{◌≡◌, ◌-◌, ap, sym, ◌∙◌, arith}
+use Rattle.csv_fields.specs.Fields.{fields_at, run_from}
+use Rattle.csv_fields.proofs.Passing.{step_line, step_none, step_more}
+use Rattle.csv_fields.proofs.Single.{larger_is}
 use Rattle.csv_fields.proofs.fields_at.Goals as goal
 
-pub loop-tally-preserved : goal.loop-tally-preserved
-loop-tally-preserved c =
-    let s = c.args.line.now in
-    let r = c.loop-tally.reader in
-    let t = c.loop-tally.tally in
-    let u = c.next_field-step.result in
-    let i = c.loop-tally.invariant in
-    let h : 0 < t.left = omega arith in
-    let f = step_field s r u i.line c.next_field-step.ensures in
-    let a = step_at s r u i.line c.next_field-step.ensures in
-    let n : c.count-tally.result ≡ counted t (comma_field_of s r.at) = c.count-tally.ensures ∙ ap (counted t) f in
-    let now : Passed s c.args.at c.args.k = record { at = r.at; tally = t; leads = i.leads } in
+pub returns-in_err-field : goal.returns-in_err-field
+returns-in_err-field c =
+    let i = c.loop-turn.invariant in
+    let e = c.next_field.ensures in
+    c.from_residual.ensures
+    ∙ sym (ap (run_from c.loop-turn.largest) (step_none _ _ _ _ i.line e.field e.moved _ _ 0 (omega arith) c.in_err-field.was))
+    ∙ i.leads
+
+pub loop-turn-preserved : goal.loop-turn-preserved
+loop-turn-preserved c =
+    let i = c.loop-turn.invariant in
+    let e = c.next_field.ensures in
     record {
-      line = step_line s r u i.line c.next_field-step.ensures;
-      leads = rw (n, a) (passed_further s c.args.at c.args.k now h).leads;
+      line = step_line _ _ _ _ i.line e.field e.moved;
+      leads =
+          step_more _ _ _ _ i.line e.field e.moved _ _ _ (omega arith) _ _ c.in_ok-field.was (larger_is c.loop-turn.largest c.in_ok-field.field.value _ c.max-largest.ensures)
+          ∙ i.leads;
     }
 
 pub returns : goal.returns
+unfolding fields_at
 returns c =
-    let s = c.args.line.now in
-    let h : c.loop-tally.tally.left ≤ 0 = omega arith in
-    let now : Passed s c.args.at c.args.k = record { at = c.loop-tally.reader.at; tally = c.loop-tally.tally; leads = c.loop-tally.invariant.leads } in
-    c.settle.ensures ∙ passed_all s c.args.at c.args.k now h
+    let z : c.args.k - c.loop-turn.turn ≡ 0 = omega arith in
+    rw z at c.loop-turn.invariant.leads

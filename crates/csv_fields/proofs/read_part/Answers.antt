@@ -1,38 +1,35 @@
 -- A turn reads one field more of the same line, and puts its number's lowest bits into the room.
-use Rattle.std.proofs.Common.{◌≡◌, ◌<◌, ◌≤◌, ap, ◌∙◌, arith}
-use Rattle.csv_fields.specs.Walk.{counted, comma_field_of, low_in}
-use Rattle.csv_fields.proofs.Passing.{step_line, step_field, step_at}
-use Rattle.csv_fields.proofs.Rooming.{Rooming, room_further, room_run, room_filled}
+use Rattle.std.proofs.Common.{◌≡◌, ◌≤◌, ◌-◌, length, ap, sym, ◌∙◌, arith}
+use Rattle.csv_fields.specs.Fields.{fields_at, run_from}
+use Rattle.csv_fields.proofs.Passing.{step_line, step_none, step_more}
+use Rattle.csv_fields.proofs.Rooming.{room_none, room_more, room_filled}
+use Rattle.csv_fields.proofs.Single.{larger_is}
 use Rattle.csv_fields.proofs.read_part.Goals as goal
 
-pub loop-tally-preserved : goal.loop-tally-preserved
-loop-tally-preserved c =
-    let s = c.args.line.now in
-    let r = c.loop-tally.reader in
-    let t = c.loop-tally.tally in
-    let u = c.next_field-step.result in
-    let i = c.loop-tally.invariant in
-    let h : 0 < t.left = omega arith in
-    let f = step_field s r u i.line c.next_field-step.ensures in
-    let a = step_at s r u i.line c.next_field-step.ensures in
-    let n : c.count-tally.result ≡ counted t (comma_field_of s r.at) = c.count-tally.ensures ∙ ap (counted t) f in
-    let l : c.low_of.result ≡ low_in (comma_field_of s r.at) = c.low_of.ensures ∙ ap low_in f in
-    let now : Rooming s c.args.room.now c.args.at c.args.largest =
-    record { at = r.at; i = c.loop-tally.i; out = c.loop-tally.room; tally = t; within = i.within; all = i.all; same = i.same; leads = i.leads; says = i.says } in
-    let next = room_further s c.args.room.now c.args.at c.args.largest now h in
+pub returns-in_err-field : goal.returns-in_err-field
+returns-in_err-field c =
+    let i = c.loop-place.invariant in
+    let e = c.next_field.ensures in
+    let none = step_none _ _ _ _ i.line e.field e.moved c.loop-place.place-index (length c.args.room.now) 0 (omega arith) c.in_err-field.was in
+    let told = sym (ap (run_from c.loop-place.so_far) none) ∙ i.leads in
+    (c.from_residual.ensures ∙ told, room_none _ _ _ told)
+
+pub loop-place-preserved : goal.loop-place-preserved
+loop-place-preserved c =
+    let i = c.loop-place.invariant in
+    let e = c.next_field.ensures in
     record {
-      line = step_line s r u i.line c.next_field-step.ensures;
-      within = rw n next.within;
-      all = rw n next.all;
-      same = rw l next.same;
-      leads = rw (n, a) next.leads;
-      says = rw (n, a, l) next.says;
+      line = step_line _ _ _ _ i.line e.field e.moved;
+      leads =
+          step_more _ _ _ _ i.line e.field e.moved _ _ _ (omega arith) _ _ c.in_ok-field.was (larger_is c.loop-place.so_far c.in_ok-field.field.value _ c.max-so_far.ensures)
+          ∙ i.leads;
+      says = room_more _ _ _ _ i.line e.field e.moved _ _ _ _ (omega arith) (omega arith) c.in_ok-field.was ∙ i.says;
     }
 
 pub returns : goal.returns
+unfolding fields_at
 returns c =
-    let i = c.loop-tally.invariant in
-    let h : c.loop-tally.tally.left ≤ 0 = omega arith in
-    let now : Rooming c.args.line.now c.args.room.now c.args.at c.args.largest =
-    record { at = c.loop-tally.reader.at; i = c.loop-tally.i; out = c.loop-tally.room; tally = c.loop-tally.tally; within = i.within; all = i.all; same = i.same; leads = i.leads; says = i.says } in
-    (c.settle.ensures ∙ room_run c.args.line.now c.args.room.now c.args.at c.args.largest now h, room_filled c.args.line.now c.args.room.now c.args.at c.args.largest now h)
+    let i = c.loop-place.invariant in
+    let z : length c.args.room.now - c.loop-place.place-index ≡ 0 = omega arith in
+    let h : length c.loop-place.room ≤ c.loop-place.place-index = omega arith in
+    (rw z at i.leads, room_filled c.args.line.now c.loop-place.room c.loop-place.reader.at c.loop-place.place-index _ h (rw z at i.says))

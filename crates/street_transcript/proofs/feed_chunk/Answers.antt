@@ -1,7 +1,7 @@
--- `feed_chunk` meets its contract. What the call ensured and the test lie too deep for `search` to find.
+-- There is room for the bytes where they are not refused.
+use Rattle.std.proofs.Common.{sym, refl}
 use Rattle.street_transcript.proofs.Admitting.{none_open, not_closing}
 use Rattle.street_transcript.proofs.feed_chunk.Goals as goal
 
-pub take_lines-after-requires : goal.take_lines-after-requires
-take_lines-after-requires c =
-    (none_open _ _ _ _ _ _ c.open_refusal-refusal.ensures c.if-refusal-ne0.false, not_closing _)
+pub take_lines-requires : goal.take_lines-requires
+take_lines-requires c = (none_open _ _ _ _ _ 0 c.in_ok-open_refusal.ensures refl, not_closing _)

@@ -1,0 +1,9 @@
+-- `inverses::few::to_32`: antt computes the test over the whole table.
+use borrow.Author.Rules.{rules}
+use Rattle.field.specs.Arithmetic.{product}
+use Rattle.inverses.proofs.Entries.{table_inverts}
+use Rattle.inverses.proofs.few.to_32.Goals as goal
+
+pub returns : goal.returns
+unfolding product
+returns c = (search rules, search (rules, table_inverts 31))

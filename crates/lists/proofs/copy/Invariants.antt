@@ -1,0 +1,6 @@
+-- The first i places are written.
+use Rattle.std.proofs.Common.{◌≡◌, take}
+use Rattle.lists.proofs.copy.Given as goal
+
+abbrev pub invariant-loop-i : goal.invariant-loop-i
+invariant-loop-i g l = take l.i l.to ≡ take l.i l.from

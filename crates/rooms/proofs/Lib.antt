@@ -1,2 +1,0 @@
--- The rooms of an opening are long enough.
-pub mod Lent

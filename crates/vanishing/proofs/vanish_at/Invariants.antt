@@ -1,0 +1,9 @@
+-- The factors of the rest, times the list, make the whole product.
+use Rattle.std.proofs.Common.{◌≡◌, ◌+◌, length, drop}
+use Rattle.vanishing.specs.Between.{Ends, Low, times_factors}
+use Rattle.vanishing.proofs.vanish_at.Given as goal
+
+abbrev pub invariant-loop-i : goal.invariant-loop-i
+invariant-loop-i l =
+    (length l.list ≡ length l.initial.list) × Ends (l.i + 1) l.list × Low l.list
+    × (times_factors (drop l.i l.numbers) l.list ≡ times_factors l.numbers l.initial.list)
