@@ -178,17 +178,11 @@ fn open_masks(
     open_both(session, rows, first, record_a, record_b)
 }
 
-// The same for the answer: what the checks and openings found, and the numbers, 0 where they refuse. A function of its own: where the compiler
-// knows at which end of `open_masks` a result was made, it writes the answer once for each, and copies the session between them.
+// The same for the answer: what the checks and openings found, and the numbers, 0 where they refuse. A function of its own, with the checks and the
+// openings in it: as part of the call they have a copy of the session, and the answer is written once for each end that the compiler can tell apart.
 #[inline(never)]
 #[tactic(auto, using(crate::proofs::Opens::shown_refusal, crate::proofs::Opens::shown_a, crate::proofs::Opens::shown_b))]
-fn tell(
-    session: Session,
-    rows: &[u32],
-    first: usize,
-    record_a: &[u32],
-    record_b: &[u32],
-) -> Told
+fn tell(session: Session, rows: &[u32], first: usize, record_a: &[u32], record_b: &[u32]) -> Told
     ensures { (refused result.checked ≡ (opened_masks session rows.now first record_a.now record_b.now).refusal)
         × (result.y_a ≡ (opened_masks session rows.now first record_a.now record_b.now).y_a)
         × (result.y_b ≡ (opened_masks session rows.now first record_a.now record_b.now).y_b) }

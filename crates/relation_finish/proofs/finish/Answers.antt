@@ -7,19 +7,19 @@ use Rattle.relation_finish.proofs.finish.Goals as goal
 
 pub write-requires : goal.write-requires
 write-requires c = (
-      finish_framed c.args.session c.args.rows.now c.args.all c.args.dest c.args.blocks.now c.requires c.open-opened.result c.open-opened.ensures c.if-opened-eq0.true,
-      finish_few c.args.session c.args.rows.now c.args.all c.args.dest c.args.blocks.now c.requires c.open-opened.result c.open-opened.ensures c.if-opened-eq0.true,
-      finish_placed c.args.session c.args.rows.now c.args.all c.args.dest c.args.blocks.now c.requires c.open-opened.result c.open-opened.ensures c.if-opened-eq0.true,
-      finish_factors c.args.session c.args.rows.now c.args.all c.args.dest c.args.blocks.now c.requires c.open-opened.result c.open-opened.ensures c.if-opened-eq0.true,
-      finish_dest c.args.session c.args.rows.now c.args.all c.args.dest c.args.blocks.now c.requires c.open-opened.result c.open-opened.ensures c.if-opened-eq0.true,
-    )
+  finish_framed c.args.session c.args.rows.now c.args.all c.args.dest c.args.blocks.now c.requires c.open-opened.result c.open-opened.ensures c.if-opened-eq0.true,
+  finish_few c.args.session c.args.rows.now c.args.all c.args.dest c.args.blocks.now c.requires c.open-opened.result c.open-opened.ensures c.if-opened-eq0.true,
+  finish_placed c.args.session c.args.rows.now c.args.all c.args.dest c.args.blocks.now c.requires c.open-opened.result c.open-opened.ensures c.if-opened-eq0.true,
+  finish_factors c.args.session c.args.rows.now c.args.all c.args.dest c.args.blocks.now c.requires c.open-opened.result c.open-opened.ensures c.if-opened-eq0.true,
+  finish_dest c.args.session c.args.rows.now c.args.all c.args.dest c.args.blocks.now c.requires c.open-opened.result c.open-opened.ensures c.if-opened-eq0.true,
+)
 
 pub settle-settled-requires : goal.settle-settled-requires
 settle-settled-requires c = (
-      finish_few c.args.session c.args.rows.now c.args.all c.args.dest c.args.blocks.now c.requires c.open-opened.result c.open-opened.ensures c.if-opened-eq0.true,
-      finish_factors c.args.session c.args.rows.now c.args.all c.args.dest c.args.blocks.now c.requires c.open-opened.result c.open-opened.ensures c.if-opened-eq0.true,
-      finish_96 c.args.session c.args.rows.now c.args.all c.args.dest c.args.blocks.now c.requires c.open-opened.result c.open-opened.ensures c.if-opened-eq0.true,
-    )
+  finish_few c.args.session c.args.rows.now c.args.all c.args.dest c.args.blocks.now c.requires c.open-opened.result c.open-opened.ensures c.if-opened-eq0.true,
+  finish_factors c.args.session c.args.rows.now c.args.all c.args.dest c.args.blocks.now c.requires c.open-opened.result c.open-opened.ensures c.if-opened-eq0.true,
+  finish_96 c.args.session c.args.rows.now c.args.all c.args.dest c.args.blocks.now c.requires c.open-opened.result c.open-opened.ensures c.if-opened-eq0.true,
+)
 
 pub answer_marking-requires : goal.answer_marking-requires
 answer_marking-requires c = allowed_anyhow _ (finish_row c.args.session c.args.rows.now c.args.all c.args.dest c.args.blocks.now c.requires c.open-opened.result c.open-opened.ensures c.if-opened-eq0.true)
