@@ -11,6 +11,7 @@ ghost use Rattle.accepting.specs.Accepting.{accepts, share};
 ghost use Rattle.accepting.specs.Between.{PowersAt, MarkedAs, MarkedTo, Judged, Unmarked};
 
 use blocks::Opening;
+use session::Party;
 use shape::{Points, Shape};
 
 // A polynomial of so few coefficients is valued by Horner's rule: the powers of the check point would take longer than they save.
@@ -120,9 +121,9 @@ pub fn judge(opening: Opening, weights: &mut [u32], marks: &mut [u32])
 
 // Post j is accepted, by the marks that `judge` left.
 #[tactic(auto, using(crate::proofs::Marks::judged_in, crate::proofs::Marks::judged_is))]
-pub fn accepts(opening: Opening, j: usize, marks: &[u32]) -> bool
-    requires { PostIn opening.party.shape j × Judged opening.party opening.row.now opening.blocks.now marks.now }
-    ensures { result ≡ accepts opening.entry.party opening.entry.row.now opening.entry.blocks.now j }
+pub fn accepts(party: Party, row: &[u32], blocks: &[u32], j: usize, marks: &[u32]) -> bool
+    requires { PostIn party.shape j × Judged party row.now blocks.now marks.now }
+    ensures { result ≡ accepts party row.now blocks.now j }
 {
     let i = j - 1;
     marks[i] != field::P
@@ -130,10 +131,9 @@ pub fn accepts(opening: Opening, j: usize, marks: &[u32]) -> bool
 
 // And its share is its mark.
 #[tactic(auto, using(crate::proofs::Marks::judged_in, crate::proofs::Marks::judged_share))]
-pub fn share(opening: Opening, j: usize, marks: &[u32]) -> u32
-    requires { PostIn opening.party.shape j × Judged opening.party opening.row.now opening.blocks.now marks.now
-        × (accepts opening.party opening.row.now opening.blocks.now j ≡ true) }
-    ensures { result ≡ share opening.entry.party opening.entry.row.now opening.entry.blocks.now j }
+pub fn share(party: Party, row: &[u32], blocks: &[u32], j: usize, marks: &[u32]) -> u32
+    requires { PostIn party.shape j × Judged party row.now blocks.now marks.now × (accepts party row.now blocks.now j ≡ true) }
+    ensures { result ≡ share party row.now blocks.now j }
 {
     let i = j - 1;
     marks[i]

@@ -151,21 +151,22 @@ module _ (s : Session) (rows : List ℕ) (r : ℕ) (l l' : List ℕ) where
   masks_opened_is e o h =
       h ∙ ap (λ (k : ℕ). found k y_a_of y_b_of) (went_on (collect_checks_of s rows r l l') late tt 0 e (first late) refl refl)
 
+  abbrev found_all : OpenedMasks
+  found_all = opened_masks s rows r l l'
+
   -- the call's end
-  module _ {B : Type 0} (o : Result Numbers Refusal) (e : shown o ≡ opened_masks s rows r l l') (q : Result B Refusal)
-      (eq : refused q ≡ (shown o).refusal) where
+  module _ {B : Type 0} (q : Result B Refusal) (eq : refused q ≡ found_all.refusal) where
     refusal_is : refused q ≡ collect_refusal s rows r l l'
-    refusal_is = eq ∙ ap (λ (a : OpenedMasks). a.refusal) e ∙ found_refusal (collect_refusal s rows r l l') y_a_of y_b_of
+    refusal_is = eq ∙ found_refusal (collect_refusal s rows r l l') y_a_of y_b_of
 
     pub collect_allows : Allows (refused q) (r ≤ last_triple)
     collect_allows = record { allowed = λ n. (collected s rows r l l' (sym refusal_is ∙ n)).checked.placed.factors.triple_in }
 
     -- what stands for y and y' in a refused call is not looked at
-    pub collect_ended : (y y' : ℕ) → y ≡ (shown o).y_a → y' ≡ (shown o).y_b → (a : Answer)
+    pub collect_ended : (y y' : ℕ) → y ≡ found_all.y_a → y' ≡ found_all.y_b → (a : Answer)
         → a ≡ answer (refused q) 0 (collected_triple s r y y') s → a ≡ collect_answer s rows r l l'
     collect_ended y y' ey ey' a h =
         h
         ∙ ap (λ (k : ℕ). answer k 0 (collected_triple s r y y') s) eq
-        ∙ ap₂ (λ (x x' : ℕ). answer (shown o).refusal 0 (collected_triple s r x x') s) ey ey'
-        ∙ ap (λ (k : OpenedMasks). answer k.refusal 0 (collected_triple s r k.y_a k.y_b) s) e
+        ∙ ap₂ (λ (x x' : ℕ). answer found_all.refusal 0 (collected_triple s r x x') s) ey ey'
         ∙ found_answer s r (collect_refusal s rows r l l') y_a_of y_b_of

@@ -178,13 +178,16 @@ fn open_masks(
     open_both(session, rows, first, record_a, record_b)
 }
 
-// The same for the answer: what the checks and openings found, and the numbers, 0 where they refuse. A function of its own: where the compiler
-// knows at which end of `open_masks` a result was made, it writes the answer once for each, and copies the session between them.
+// The same for the answer: what the checks and openings found, and the numbers, 0 where they refuse. A function of its own, with the checks and the
+// openings in it: as part of the call they have a copy of the session, and the answer is written once for each end that the compiler can tell apart.
 #[inline(never)]
 #[tactic(auto, using(crate::proofs::Opens::shown_refusal, crate::proofs::Opens::shown_a, crate::proofs::Opens::shown_b))]
-fn tell(opened: Result<Numbers, Refusal>) -> Told
-    ensures { (refused result.checked ≡ (shown opened).refusal) × (result.y_a ≡ (shown opened).y_a) × (result.y_b ≡ (shown opened).y_b) }
+fn tell(session: Session, rows: &[u32], first: usize, record_a: &[u32], record_b: &[u32]) -> Told
+    ensures { (refused result.checked ≡ (opened_masks session rows.now first record_a.now record_b.now).refusal)
+        × (result.y_a ≡ (opened_masks session rows.now first record_a.now record_b.now).y_a)
+        × (result.y_b ≡ (opened_masks session rows.now first record_a.now record_b.now).y_b) }
 {
+    let opened = open_masks(session, rows, first, record_a, record_b);
     let numbers = opened.unwrap_or(Numbers { y_a: 0, y_b: 0 });
     Told {
         checked: opened.and(Ok(())),
@@ -202,6 +205,6 @@ pub fn collect(
 ) -> Answer
     ensures { result ≡ collect_answer session rows.now first record_a.now record_b.now }
 {
-    let told = tell(open_masks(session, rows, first, record_a, record_b));
+    let told = tell(session, rows, first, record_a, record_b);
     session.answer_collecting(told.checked, first, told.y_a, told.y_b)
 }

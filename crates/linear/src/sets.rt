@@ -7,7 +7,7 @@ ghost use Rattle.callers.specs.Sets.{sets_length, shared, shared_all, unbarred};
 ghost use Rattle.refusal.specs.Numbers.{refused};
 ghost use Rattle.session.specs.Between.{Allows};
 
-use refusal::Refusal;
+use refusal::HasNumber;
 
 // Row d bars nobody.
 #[tactic(auto, using(callers::proofs::Shared::shared_start, crate::proofs::Sharing::clear_more, callers::proofs::Shared::shared_end))]
@@ -46,12 +46,12 @@ fn share(sets: &mut [u32], d: usize, a: usize, b: usize)
 
 // The sets, after a call whose checks found this.
 #[tactic(auto, using(crate::proofs::Sharing::row_96, crate::proofs::Sharing::set_refused, crate::proofs::Sharing::set_done, crate::proofs::Sharing::length_shares, refusal::proofs::Checks::ok_zero, refusal::proofs::Checks::err_not_zero))]
-pub fn share_unless(checked: Result<(), Refusal>, sets: &mut [u32], d: usize, a: usize, b: usize)
-    requires { (length sets.old ≡ sets_length) × Allows (refused checked) (d ≤ last_row_at) × Allows (refused checked) (a ≤ last_row_at)
-        × Allows (refused checked) (b ≤ last_row_at) }
-    ensures { sets.new ≡ outcome (refused checked) (shared_all sets.old d (a ∷ b ∷ [])) sets.old }
+pub fn share_unless<R: HasNumber>(checked: R, sets: &mut [u32], d: usize, a: usize, b: usize)
+    requires { (length sets.old ≡ sets_length) × Allows (R.numbered checked) (d ≤ last_row_at) × Allows (R.numbered checked) (a ≤ last_row_at)
+        × Allows (R.numbered checked) (b ≤ last_row_at) }
+    ensures { sets.new ≡ outcome (R.numbered checked) (shared_all sets.old d (a ∷ b ∷ [])) sets.old }
 {
-    if checked.is_ok() {
+    if checked.as_number() == 0 {
         share(sets, d, a, b);
     }
 }

@@ -2,10 +2,9 @@
 // relation's finish use both.
 #![tactic(auto)]
 
-ghost use Rattle.std.specs.Prelude.{◌≡◌, ◌≤◌, ◌+◌, ◌*◌, eqb, length};
+ghost use Rattle.std.specs.Prelude.{◌≡◌, ◌≤◌, ◌+◌, ◌*◌, cond, ◌||◌, eqb, length};
 ghost use Rattle.shape.specs.Bounds.{longest_row};
 ghost use Rattle.shape.specs.Lengths.{row_length};
-ghost use Rattle.refusal.specs.Numbers.{refused};
 ghost use Rattle.session.specs.Between.{Sized, RowIn};
 ghost use Rattle.blocks.specs.Between.{Openable};
 ghost use Rattle.walk.specs.Number.{opened_row};
@@ -15,7 +14,7 @@ ghost use Rattle.mask_opening.specs.Pair.{opened_pair};
 ghost use Rattle.mask_opening.specs.Between.{Maskable};
 
 use blocks::Opening;
-use refusal::Refusal;
+use refusal::{HasNumber, Refusal};
 use session::Party;
 use shape::Shape;
 
@@ -104,20 +103,17 @@ impl<'a> Masks<'a> {
     }
 }
 
-// 9: too few were accepted. By the number: the proof of a `match` with `_` doesn't learn that the rest is another refusal.
-fn too_few<T: Copy>(opened: Result<T, Refusal>) -> bool
-    ensures { result ≡ eqb (refused opened) 9 }
+// The first refusal of two openings: a 9 of either comes before a 13 of either. Of their numbers alone too; where neither is refused, the second.
+#[tactic(auto, using(crate::proofs::Opens::either_second, crate::proofs::Opens::either_first))]
+pub fn either<R: HasNumber>(a: R, b: R) -> R
+    ensures number { R.numbered result ≡ either_of (R.numbered a) (R.numbered b) }
+    ensures which { result ≡ cond (eqb (R.numbered b) 9 || eqb (R.numbered a) 0) b a }
 {
-    match opened {
-        Ok(_) => false,
-        Err(refusal) => refusal as u8 == Refusal::TooFewAccepted as u8,
+    let first = a.as_number();
+    let second = b.as_number();
+    if second == Refusal::TooFewAccepted as u8 || first == 0 {
+        b
+    } else {
+        a
     }
-}
-
-// Two openings: a 9 of either comes before a 13 of either.
-#[tactic(auto, using(crate::proofs::Opens::either_nine, crate::proofs::Opens::either_other, refusal::proofs::Checks::refused_and))]
-pub fn either<T: Copy>(a: Result<T, Refusal>, b: Result<T, Refusal>) -> Result<T, Refusal>
-    ensures { refused result ≡ either_of (refused a) (refused b) }
-{
-    if too_few(b) { b } else { a.and(b) }
 }

@@ -8,6 +8,7 @@ use Rattle.blocks.specs.Blocks as Blocks
 use Rattle.accepting.specs.Accepting as Accepting
 use Rattle.walk.specs.Number as Number
 pub use Rattle.blocks.specs.Blocks.{block_mark, block_coefficients}
+pub use Rattle.walk.specs.Number.{told}
 unfoldable pub use Rattle.accepting.specs.Accepting.{walk}
 
 abbrev pub record_length : Session → ℕ

@@ -15,20 +15,20 @@ ghost use Rattle.session.specs.Sessions.{shape_of};
 ghost use Rattle.session.specs.Between.{Sized, RowIn, TripleIn};
 ghost use Rattle.product_masks.specs.Masks.{mask_row, masks_place_of, triple_marks_of, factor_numbers_of, masks_refusal_of, masks_answer, both_masks, masks_out_of};
 
-use refusal::Refusal;
+use refusal::{HasNumber, Refusal};
 use session::{Answer, Session};
 use shape::{Mark, Shape};
 
 // 7, of the factor rows a and b and of the triple at `row`, whose first row needs this mark.
-pub fn triple_marks(
+pub fn triple_marks<M: HasNumber>(
     session: Session,
     a: usize,
     b: usize,
     row: usize,
-    mark: Mark,
+    mark: M,
 ) -> Result<(), Refusal>
     requires { row ≤ last_triple }
-    ensures { refused result ≡ first (triple_marks_of session a b row (mark_number mark)) }
+    ensures { refused result ≡ first (triple_marks_of session a b row (M.numbered mark)) }
 {
     let all_marks = session.marks;
     session::checks::wrong_mark(&all_marks, a, Mark::Held)?;

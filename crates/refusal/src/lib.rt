@@ -1,11 +1,14 @@
 // Refusals: the first of several in order, and the conditions that several calls share.
 #![tactic(auto)]
 
+pub mod has_number;
+
 ghost use Rattle.std.specs.Prelude.{◌≡◌, [], ◌∷◌};
 ghost use Rattle.refusal.specs.Refusal.{first, ◌when◌};
 ghost use Rattle.refusal.specs.Numbers.{refused};
 ghost use Rattle.refusal.specs.Conditions.{posts_tests, outside, wrong_length, beyond, any_beyond, bad_point, bad_point_count, bad_points, station_tests, party_tests};
 
+pub use crate::has_number::HasNumber;
 use shape::Points;
 
 // Why a call is refused, by the documents' numbers.

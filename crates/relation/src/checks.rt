@@ -8,7 +8,7 @@ ghost use Rattle.session.specs.Sessions.{shape_of};
 ghost use Rattle.terms.specs.Listed.{terms_of, factors_of};
 ghost use Rattle.relation.specs.Tests.{each, bad_count, place_tests, mark_tests, named_in, named_twice_of, Few, Every, Placed};
 
-use refusal::Refusal;
+use refusal::{HasNumber, Refusal};
 use session::Session;
 use shape::Mark;
 use terms::{Term, Terms};
@@ -63,9 +63,9 @@ pub fn places(all: Terms) -> Result<(), Refusal>
 
 // 7, of one term; its triple's first row needs this mark.
 #[tactic(auto, using(crate::proofs::Sorts::mark_plain, crate::proofs::Sorts::mark_first, crate::proofs::Sorts::mark_product))]
-fn mark(session: Session, term: Term, mark: Mark) -> Result<(), Refusal>
+fn mark<M: HasNumber>(session: Session, term: Term, mark: M) -> Result<(), Refusal>
     requires { Placed (shape_of session) term }
-    ensures { refused result ≡ first (mark_tests session (mark_number mark) term) }
+    ensures { refused result ≡ first (mark_tests session (M.numbered mark) term) }
 {
     let row = term.row as usize;
     if term.plain() {
@@ -83,9 +83,9 @@ fn mark(session: Session, term: Term, mark: Mark) -> Result<(), Refusal>
 
 // 7, of every term.
 #[tactic(auto, using(crate::proofs::Loops::stops, crate::proofs::Loops::goes_on, crate::proofs::Loops::ends, crate::proofs::Loops::every_at, crate::proofs::Sorts::mark_numbered, refusal::proofs::Checks::not_zero))]
-pub fn marks(session: Session, all: Terms, need: Mark) -> Result<(), Refusal>
+pub fn marks<M: HasNumber>(session: Session, all: Terms, need: M) -> Result<(), Refusal>
     requires { Few all × Every (Placed (shape_of session)) (terms_of all) }
-    ensures { refused result ≡ first (each (mark_tests session (mark_number need)) (terms_of all)) }
+    ensures { refused result ≡ first (each (mark_tests session (M.numbered need)) (terms_of all)) }
 {
     for &term in &all.list[..all.count] {
         mark(session, term, need)?;

@@ -25,18 +25,12 @@ use Rattle.terms.specs.declared.Term.{Term}
 use Rattle.relation.specs.Tests.{Factors}
 use Rattle.relation.proofs.Loops.{walked}
 use Rattle.relation_writing.specs.declared.OpenedTerms.{OpenedTerms}
-use Rattle.relation_finish.specs.Steps.{Openings, shown, kept_at, with_opened, opened_terms}
+use Rattle.relation_finish.specs.Steps.{kept_at, with_opened, opened_terms}
 
-and_ok : {B : Type 0} (u : Result ℕ Refusal) (x : B) → refused (result_and u (Ok x)) ≡ refused u
-and_ok (Ok y) x = refl
-and_ok (Err r) x = refl
-
-pub kept : {B : Type 0} (k : ℕ) (a b u : Result ℕ Refusal) (before o : OpenedTerms) (x : B) (q : Result B Refusal) → refused u ≡ either_of (refused a) (refused b)
-    → q ≡ result_and u (Ok x) → refused o.checked ≡ either_of (refused before.checked) (refused q) → o.y_a ≡ set before.y_a k (value_or_zero a)
-    → o.y_b ≡ set before.y_b k (value_or_zero b) → shown o ≡ kept_at k a b (shown before)
-kept k a b u before o x q eu eq ev ea eb =
-    let h : refused q ≡ either_of (refused a) (refused b) = ap refused eq ∙ and_ok u x ∙ eu in
-    rw (ev, h, ea, eb) refl
+pub kept : (k : ℕ) (a b u : Result ℕ Refusal) (before o : OpenedTerms) (r : ℕ) → refused u ≡ either_of (refused a) (refused b)
+    → r ≡ refused u → o.refusal ≡ either_of before.refusal r → o.y_a ≡ set before.y_a k (value_or_zero a)
+    → o.y_b ≡ set before.y_b k (value_or_zero b) → o ≡ kept_at k a b before
+kept k a b u before o r eu er ev ea eb = rw (ev, er, eu, ea, eb) refl
 
 -- both masks opened with records of the lent list, as the code has them
 module _ (s : Session) (g : Shape) (eg : g ≡ shape_of s) (q : Party) (eq : q ≡ party_of s) (rows blocks : List ℕ) (k : ℕ) (t : Term) (x y : List ℕ) where
@@ -47,11 +41,11 @@ module _ (s : Session) (g : Shape) (eg : g ≡ shape_of s) (q : Party) (eq : q �
       party_maskable s q eq rows t.row t.second t.first x y f h.row_in h.second_in h.triple_in (own x lx) (own y ly)
 
   pub both_kept : x ≡ row_at (Lengths.record_length g) blocks (2 * k) → y ≡ row_at (Lengths.record_length g) blocks (2 * k + 1) → (pair : OpenedPair)
-      → pair ≡ opened_pair q rows t.row t.second t.first x y → (before o : OpenedTerms) → shown o ≡ kept_at k pair.a pair.b (shown before)
-      → shown o ≡ with_opened s rows blocks k t (shown before)
+      → pair ≡ opened_pair q rows t.row t.second t.first x y → (before o : OpenedTerms) → o ≡ kept_at k pair.a pair.b before
+      → o ≡ with_opened s rows blocks k t before
   both_kept ex ey pair ep before o eo = rw (ep, eq, ex, ey, eg) at eo
 
-pub opened_walk : (s : Session) (rows blocks : List ℕ) (k : ℕ) (ts : List Term) (o : Openings)
+pub opened_walk : (s : Session) (rows blocks : List ℕ) (k : ℕ) (ts : List Term) (o : OpenedTerms)
     → walked (with_opened s rows blocks) k ts o ≡ opened_terms s rows blocks k ts o
 unfolding opened_terms
 opened_walk s rows blocks k [] o = refl

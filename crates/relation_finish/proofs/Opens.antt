@@ -34,7 +34,7 @@ use Rattle.relation.specs.Finish.{record_a_of, record_b_of, term_mask_a, term_ma
 use Rattle.relation.specs.Finish.{with_products, with_sum, pair_done, finished_terms, relation_done, number_rows}
 use Rattle.relation.specs.Finish.{relation_finish_checks, relation_finish_refusal, relation_finish_answer, relation_finish_rows}
 use Rattle.relation_writing.specs.Steps.{products_written, triples_finished}
-use Rattle.relation_finish.specs.Steps.{Openings, shown, with_opened, opened_terms, unopened, opened_all, unopened_by, opened_finish}
+use Rattle.relation_finish.specs.Steps.{with_opened, opened_terms, unopened, opened_all, unopened_by, opened_finish}
 use Rattle.relation.proofs.Passing.{numbered_append}
 use Rattle.relation.proofs.Numbering.{checks_numbered, few_numbered, open_numbered}
 use Rattle.relation.proofs.Loops.{walked}
@@ -131,7 +131,7 @@ module _ (s : Session) (rows blocks : List ℕ) where
       ∙ ap₂ either_of (refusal_told (few_a k t) (off_a k t) (opened s (xa t) (record_a_of s blocks k))) (refusal_told (few_b k t) (off_b k t) (opened s (xb t) (record_b_of s blocks k)))
       ∙ told_either (few_a k t) (few_b k t) (off_a k t) (off_b k t)
 
-  opened_told : (k : ℕ) (ts : List Term) (o : Openings) (f d : Bool) → o.refusal ≡ told f d
+  opened_told : (k : ℕ) (ts : List Term) (o : OpenedTerms) (f d : Bool) → o.refusal ≡ told f d
       → (opened_terms s rows blocks k ts o).refusal ≡ told (f || any_at few_a few_b k ts) (d || any_at off_a off_b k ts)
   unfolding opened_terms
   opened_told k [] o f d e = e ∙ ap₂ told (sym (or_none f)) (sym (or_none d))
@@ -154,7 +154,7 @@ module _ (s : Session) (rows blocks : List ℕ) where
       (any_first 9 few_a few_b 0 ts) (any_first 13 off_a off_b 0 ts))
 
   -- a later term leaves the numbers of those before it
-  kept_below : (k : ℕ) (ts : List Term) (o : Openings) (i : ℕ) → i < k
+  kept_below : (k : ℕ) (ts : List Term) (o : OpenedTerms) (i : ℕ) → i < k
       → (get_or (opened_terms s rows blocks k ts o).y_a i 0 ≡ get_or o.y_a i 0) × (get_or (opened_terms s rows blocks k ts o).y_b i 0 ≡ get_or o.y_b i 0)
   unfolding opened_terms
   kept_below k [] o i h = (refl, refl)
@@ -164,7 +164,7 @@ module _ (s : Session) (rows blocks : List ℕ) where
       (q.0 ∙ get_or-set_other o.y_a k i _ 0 other, q.1 ∙ get_or-set_other o.y_b k i _ 0 other)
 
   -- what is done with each term and its numbers in the two lists is done with the numbers that it opens to
-  with_own : {X : Type 0} (f : ℕ → ℕ → Term → X → X) (k : ℕ) (ts : List Term) (o : Openings) (now : X) → length o.y_a ≡ most_terms
+  with_own : {X : Type 0} (f : ℕ → ℕ → Term → X → X) (k : ℕ) (ts : List Term) (o : OpenedTerms) (now : X) → length o.y_a ≡ most_terms
       → length o.y_b ≡ most_terms → k + length ts ≤ most_terms → AllFail (each_at_of (few_tests s rows blocks) k ts) → AllFail (each_at_of (off_tests s rows blocks) k ts)
       → walked (λ i t x. f (get_or (opened_terms s rows blocks k ts o).y_a i 0) (get_or (opened_terms s rows blocks k ts o).y_b i 0) t x) k ts now
       ≡ walked (λ i t x. f (term_number_a s rows blocks i t) (term_number_b s rows blocks i t) t x) k ts now
@@ -194,12 +194,12 @@ module _ (s : Session) (rows : List ℕ) (all : Terms) (d : ℕ) (blocks : List 
 
   -- 1 to 8 stop the call, or the openings settle it
   module _ (f : ℕ) (e : f ≡ first (relation_finish_checks s rows all d blocks)) where
-    pub terms_unopened : (f ≡ 0 → ⊥) → (o : OpenedTerms) → shown o ≡ unopened_by f → shown o ≡ opened_finish s rows all d blocks
+    pub terms_unopened : (f ≡ 0 → ⊥) → (o : OpenedTerms) → o ≡ unopened_by f → o ≡ opened_finish s rows all d blocks
     terms_unopened n o eo =
         eo ∙ ap unopened_by e ∙ refused_end f (first checks) (opened_all s rows all blocks) (unopened_by (first checks)) e n
 
-    pub terms_opened : f ≡ 0 → (o : OpenedTerms) → shown o ≡ opened_all s rows all blocks → shown o ≡ opened_finish s rows all d blocks
-    terms_opened z o eo = accepted f (first checks) (shown o) (opened_all s rows all blocks) (unopened_by (first checks)) e z eo
+    pub terms_opened : f ≡ 0 → (o : OpenedTerms) → o ≡ opened_all s rows all blocks → o ≡ opened_finish s rows all d blocks
+    terms_opened z o eo = accepted f (first checks) o (opened_all s rows all blocks) (unopened_by (first checks)) e z eo
 
   refusal_of_lem : (k : ℕ) → (outcome k (opened_all s rows all blocks) (unopened_by k)).refusal ≡ or_else k (first opens)
   unfolding outcome
@@ -212,9 +212,9 @@ module _ (s : Session) (rows : List ℕ) (all : Terms) (d : ℕ) (blocks : List 
   numbers_of (suc k) e = absurd (omega arith)
 
   -- the call's two ends
-  module _ (c : Counted all) (given : OpenedTerms) (e : shown given ≡ opened_finish s rows all d blocks) where
-    abbrev o : Openings
-    o = shown given
+  module _ (c : Counted all) (given : OpenedTerms) (e : given ≡ opened_finish s rows all d blocks) where
+    abbrev o : OpenedTerms
+    o = given
 
     abbrev done : Session
     done = relation_done s rows blocks (factors_of all) (terms_of all) d
@@ -225,7 +225,7 @@ module _ (s : Session) (rows : List ℕ) (all : Terms) (d : ℕ) (blocks : List 
     refusal_is : o.refusal ≡ relation_finish_refusal s rows all d blocks
     unfolding relation_finish_refusal
     refusal_is =
-        ap (λ (x : Openings). x.refusal) e ∙ refusal_of_lem (first checks)
+        ap (λ (x : OpenedTerms). x.refusal) e ∙ refusal_of_lem (first checks)
         ∙ sym (first_join checks opens (checks_numbered s rows all d blocks))
 
     module _ (n : o.refusal ≡ 0 → ⊥) where
@@ -277,7 +277,7 @@ module _ (s : Session) (rows : List ℕ) (all : Terms) (d : ℕ) (blocks : List 
       owned f now =
           let l : 0 + length (factors_of all) ≤ most_terms = omega (arith, length-take all.products all.factors, finish_few.products_in) in
           let split = fail_parts (fews s rows blocks 0 (factors_of all)) (offs s rows blocks 0 (factors_of all)) fails.1 in
-          ap (λ (x : Openings). walked (λ i t y. f (get_or x.y_a i 0) (get_or x.y_b i 0) t y) 0 (factors_of all) now) numbers_are
+          ap (λ (x : OpenedTerms). walked (λ i t y. f (get_or x.y_a i 0) (get_or x.y_b i 0) t y) 0 (factors_of all) now) numbers_are
           ∙ with_own s rows blocks f 0 (factors_of all) unopened now (length-replicate {A = ℕ} most_terms 0) (length-replicate {A = ℕ} most_terms 0) l split.0 split.1
 
       pub finish_done : (g : Session) (a : Answer) → g ≡ sharing_all (triples_finished o.y_a o.y_b 0 (factors_of all) s) d (number_rows (terms_of all))

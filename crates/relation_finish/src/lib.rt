@@ -7,7 +7,7 @@ pub mod openings;
 ghost use Rattle.std.specs.Prelude.{◌≡◌};
 ghost use Rattle.relation.specs.Tests.{Counted};
 ghost use Rattle.relation.specs.Finish.{relation_finish_answer, relation_finish_rows};
-ghost use Rattle.relation_finish.specs.Steps.{shown, opened_finish};
+ghost use Rattle.relation_finish.specs.Steps.{opened_finish};
 
 use relation_writing::OpenedTerms;
 use session::{Answer, Session};
@@ -18,7 +18,7 @@ use terms::Terms;
 #[tactic(auto, using(crate::proofs::Opens::terms_opened, refusal::proofs::Checks::ok_zero, refusal::proofs::Checks::err_not_zero))]
 fn open(session: Session, rows: &[u32], all: Terms, dest: usize, blocks: &[u32]) -> OpenedTerms
     requires { Counted all }
-    ensures { shown result ≡ opened_finish session rows.now all dest blocks.now }
+    ensures { result ≡ opened_finish session rows.now all dest blocks.now }
 {
     let checked = relation_checks::finish_checks(session, rows, all, dest, blocks);
     if checked.is_ok() {
@@ -35,10 +35,10 @@ pub fn finish(session: Session, rows: &mut [u32], all: Terms, dest: usize, block
     ensures rows_after { rows.new ≡ relation_finish_rows session rows.old all dest blocks.now }
 {
     let opened = open(session, rows, all, dest, blocks);
-    if opened.checked.is_ok() {
+    if opened.refusal == 0 {
         relation_writing::write(session, rows, all, dest, opened);
         let settled = relation_writing::settle(session, all, dest, opened);
         return settled.answer_marking(Ok(()), dest, Mark::Held);
     }
-    session.answer(opened.checked)
+    session.answer(opened.refusal)
 }

@@ -3,14 +3,13 @@ ghost use Rattle.std.specs.Prelude.{◌≡◌, ◌*◌, ◌<◌, length};
 ghost use Rattle.shape.specs.Lengths.{record_length};
 ghost use Rattle.session.specs.Sessions.{shape_of};
 ghost use Rattle.session.specs.Between.{Framed};
-ghost use Rattle.refusal.specs.Numbers.{refused};
 ghost use Rattle.terms.specs.Listed.{most_terms, factors_of};
 ghost use Rattle.relation.specs.Tests.{Few, Every, Factors};
 ghost use Rattle.relation_checks.specs.Steps.{Pair};
-ghost use Rattle.relation_finish.specs.Steps.{shown, kept_at, with_opened, opened_all, unopened_by};
+ghost use Rattle.relation_finish.specs.Steps.{kept_at, with_opened, opened_all, unopened_by};
 
 use mask_opening::Masks;
-use refusal::Refusal;
+use refusal::{HasNumber, Refusal};
 use relation_writing::OpenedTerms;
 use session::Session;
 use terms::{Term, Terms};
@@ -24,11 +23,11 @@ fn keep(
     before: OpenedTerms,
 ) -> OpenedTerms
     requires { k < most_terms }
-    ensures { shown result ≡ kept_at k a b (shown before) }
+    ensures { result ≡ kept_at k a b before }
 {
-    let own = mask_opening::either(a, b).and(Ok(()));
+    let own = refusal::number_of(mask_opening::either(a, b));
     let mut opened = before;
-    opened.checked = mask_opening::either(before.checked, own);
+    opened.refusal = mask_opening::either(before.refusal, own);
     opened.y_a[k] = a.unwrap_or(0);
     opened.y_b[k] = b.unwrap_or(0);
     opened
@@ -45,7 +44,7 @@ fn open_term(
     before: OpenedTerms,
 ) -> OpenedTerms
     requires { Framed session rows.now × Pair session blocks.now k × Factors (shape_of session) term }
-    ensures { shown result ≡ with_opened session rows.now blocks.now k term (shown before) }
+    ensures { result ≡ with_opened session rows.now blocks.now k term before }
 {
     let shape = session.shape();
     let place = 2 * k;
@@ -65,11 +64,11 @@ fn open_term(
 }
 
 // No numbers yet, and what the checks found.
-pub fn unopened(checked: Result<(), Refusal>) -> OpenedTerms
-    ensures { shown result ≡ unopened_by (refused checked) }
+pub fn unopened<R: HasNumber>(checked: R) -> OpenedTerms
+    ensures { result ≡ unopened_by (R.numbered checked) }
 {
     OpenedTerms {
-        checked,
+        refusal: checked.as_number(),
         y_a: [0; terms::MOST_TERMS],
         y_b: [0; terms::MOST_TERMS],
     }
@@ -79,9 +78,9 @@ pub fn unopened(checked: Result<(), Refusal>) -> OpenedTerms
 pub fn open_terms(session: Session, rows: &[u32], all: Terms, blocks: &[u32]) -> OpenedTerms
     requires { Framed session rows.now × Few all × Every (Factors (shape_of session)) (factors_of all)
         × (length blocks.now ≡ all.products * (2 * record_length (shape_of session))) }
-    ensures { shown result ≡ opened_all session rows.now all blocks.now }
+    ensures { result ≡ opened_all session rows.now all blocks.now }
 {
-    let mut opened = unopened(Ok(()));
+    let mut opened = unopened(0);
     for (k, &term) in all.factors[..all.products].iter().enumerate() {
         opened = open_term(session, rows, blocks, k, term, opened);
     }

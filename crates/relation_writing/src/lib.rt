@@ -15,16 +15,15 @@ ghost use Rattle.relation.specs.Tests.{Few, Every, Placed, Factors};
 ghost use Rattle.relation.specs.Finish.{number_row_of, number_rows, plus_term, plus_terms, with_sum, pair_done};
 ghost use Rattle.relation_writing.specs.Steps.{products_written, triples_finished};
 
-use refusal::Refusal;
 use session::Session;
 use shape::Shape;
 use terms::{Term, Terms};
 
-// The two numbers that each product term opens to, y and y', at its place; and what the openings found. Not a Result of the two lists: behind a 13 a later
+// The two numbers that each product term opens to, y and y', at its place; and the openings' refusal, 0 for none. Not a Result of the two lists: behind a 13 a later
 // term is still opened, for its 9 comes before; and the lists would be copied out of it.
 #[derive(Clone, Copy)]
 pub struct OpenedTerms {
-    pub checked: Result<(), Refusal>,
+    pub refusal: u8,
     pub y_a: [u32; terms::MOST_TERMS],
     pub y_b: [u32; terms::MOST_TERMS],
 }

@@ -3,7 +3,6 @@ ghost use Rattle.std.specs.Prelude.{◌≡◌, ◌≤◌, [], ◌∷◌};
 ghost use Rattle.refusal.specs.Refusal.{first, ◌when◌};
 ghost use Rattle.refusal.specs.Numbers.{refused};
 ghost use Rattle.refusal.specs.Conditions.{any_beyond};
-ghost use Rattle.shape.specs.Marks.{mark_number};
 ghost use Rattle.session.specs.Sessions.{mark_in, session_tests};
 ghost use Rattle.shape.specs.Bounds.{last_triple};
 ghost use Rattle.shape.specs.Lengths.{row_length};
@@ -12,7 +11,7 @@ ghost use Rattle.session.specs.Checks.{frame_tests, no_row, no_triple, wrong_mar
 ghost use Rattle.session.specs.Between.{Sized};
 
 use crate::{Session, rows};
-use refusal::Refusal;
+use refusal::{HasNumber, Refusal};
 use shape::{Mark, Points, Shape};
 
 // 1 to 4, of a session's settings.
@@ -55,19 +54,25 @@ fn mark(marks: &[u8], row: usize) -> u8
 }
 
 // 7, of the mark that a call needs on a row.
-pub fn wrong_mark(marks: &[u8], row: usize, need: Mark) -> Result<(), Refusal>
-    ensures { refused result ≡ first (7 when wrong_mark_in marks.now row (mark_number need) ∷ []) }
+pub fn wrong_mark<M: HasNumber>(marks: &[u8], row: usize, need: M) -> Result<(), Refusal>
+    ensures { refused result ≡ first (7 when wrong_mark_in marks.now row (M.numbered need) ∷ []) }
 {
-    if mark(marks, row) != need.number() {
+    if mark(marks, row) != need.as_number() {
         return Err(Refusal::WrongMark);
     }
     Ok(())
 }
 
 // 7, of the marks that a call needs on a triple's three rows.
-pub fn wrong_marks(marks: &[u8], row: usize, a: Mark, b: Mark, c: Mark) -> Result<(), Refusal>
+pub fn wrong_marks<A: HasNumber, B: HasNumber, C: HasNumber>(
+    marks: &[u8],
+    row: usize,
+    a: A,
+    b: B,
+    c: C,
+) -> Result<(), Refusal>
     requires { row ≤ last_triple }
-    ensures { refused result ≡ first (wrong_marks_of marks.now row (mark_number a) (mark_number b) (mark_number c)) }
+    ensures { refused result ≡ first (wrong_marks_of marks.now row (A.numbered a) (B.numbered b) (C.numbered c)) }
 {
     wrong_mark(marks, row, a)
         .and(wrong_mark(marks, row + 1, b))

@@ -8,13 +8,12 @@ pub mod rows;
 
 ghost use Rattle.std.specs.Prelude.{◌≡◌, ◌≤◌, ◌<◌};
 ghost use Rattle.shape.specs.Bounds.{last_row_at, last_triple};
-ghost use Rattle.shape.specs.Marks.{mark_number};
 ghost use Rattle.refusal.specs.Refusal.{outcome};
 ghost use Rattle.refusal.specs.Numbers.{refused};
 ghost use Rattle.session.specs.Sessions.{as_many_of, points_of, shape_of, party_of, marked, marked_triple, masked_triple, collected_triple, session_of, holding, answer, created, finished_triple};
 ghost use Rattle.session.specs.Between.{Allows};
 
-use refusal::Refusal;
+use refusal::{HasNumber, Refusal};
 use shape::{Mark, Points, Shape};
 
 // Who opens a number: the station's shape, the post's own number and its check points.
@@ -153,11 +152,11 @@ impl Session {
     }
 
     // How a call ends that changes nothing of the session: refused or not, it goes back as it came.
-    pub fn answer(self, checked: Result<(), Refusal>) -> Answer
-        ensures { result ≡ holding (refused checked) 0 self }
+    pub fn answer<R: HasNumber>(self, checked: R) -> Answer
+        ensures { result ≡ holding (R.numbered checked) 0 self }
     {
         Answer {
-            refusal: refusal::number_of(checked),
+            refusal: checked.as_number(),
             value: 0,
             session: self,
         }
@@ -177,41 +176,48 @@ impl Session {
     // How a call ends that marks a row: refused, the session as it came; else with the mark. One method for both, called once. The list
     // that changes is copied, to be changed; the rest is copied once, straight into the answer. With `mut self` the whole session would
     // be copied twice: to be changed, and into the answer.
-    pub fn answer_marking(self, checked: Result<(), Refusal>, row: usize, mark: Mark) -> Answer
-        requires { Allows (refused checked) (row ≤ last_row_at) }
-        ensures { result ≡ answer (refused checked) 0 (marked self row (mark_number mark)) self }
+    pub fn answer_marking<R: HasNumber, M: HasNumber>(
+        self,
+        checked: R,
+        row: usize,
+        mark: M,
+    ) -> Answer
+        requires { Allows (R.numbered checked) (row ≤ last_row_at) }
+        ensures { result ≡ answer (R.numbered checked) 0 (marked self row (M.numbered mark)) self }
     {
+        let refusal = checked.as_number();
         let mut marks = self.marks;
-        if checked.is_ok() {
-            marks[row] = mark.number();
+        if refusal == 0 {
+            marks[row] = mark.as_number();
         }
         Answer {
-            refusal: refusal::number_of(checked),
+            refusal,
             value: 0,
             session: Session { marks, ..self },
         }
     }
 
     // The same, with other marks on a triple's three rows.
-    pub fn answer_marking_triple(
+    pub fn answer_marking_triple<R: HasNumber, A: HasNumber, B: HasNumber, C: HasNumber>(
         self,
-        checked: Result<(), Refusal>,
+        checked: R,
         first: usize,
-        one: Mark,
-        two: Mark,
-        three: Mark,
+        one: A,
+        two: B,
+        three: C,
     ) -> Answer
-        requires { Allows (refused checked) (first ≤ last_triple) }
-        ensures { result ≡ answer (refused checked) 0 (marked_triple self first (mark_number one) (mark_number two) (mark_number three)) self }
+        requires { Allows (R.numbered checked) (first ≤ last_triple) }
+        ensures { result ≡ answer (R.numbered checked) 0 (marked_triple self first (A.numbered one) (B.numbered two) (C.numbered three)) self }
     {
+        let refusal = checked.as_number();
         let mut marks = self.marks;
-        if checked.is_ok() {
-            marks[first] = one.number();
-            marks[first + 1] = two.number();
-            marks[first + 2] = three.number();
+        if refusal == 0 {
+            marks[first] = one.as_number();
+            marks[first + 1] = two.as_number();
+            marks[first + 2] = three.as_number();
         }
         Answer {
-            refusal: refusal::number_of(checked),
+            refusal,
             value: 0,
             session: Session { marks, ..self },
         }
@@ -219,26 +225,27 @@ impl Session {
 
     // The same, of masks: the triple at `first` remembers the factor rows a and b. Part of its callers: else a session is copied there twice.
     #[inline(always)]
-    pub fn answer_masking(
+    pub fn answer_masking<R: HasNumber>(
         self,
-        checked: Result<(), Refusal>,
+        checked: R,
         first: usize,
         a: usize,
         b: usize,
     ) -> Answer
-        requires { Allows (refused checked) (first ≤ last_triple) × Allows (refused checked) (a ≤ last_row_at) × Allows (refused checked) (b ≤ last_row_at) }
-        ensures { result ≡ answer (refused checked) 0 (masked_triple self first a b) self }
+        requires { Allows (R.numbered checked) (first ≤ last_triple) × Allows (R.numbered checked) (a ≤ last_row_at) × Allows (R.numbered checked) (b ≤ last_row_at) }
+        ensures { result ≡ answer (R.numbered checked) 0 (masked_triple self first a b) self }
     {
+        let refusal = checked.as_number();
         let mut marks = self.marks;
         let mut factor_a = self.factor_a;
         let mut factor_b = self.factor_b;
-        if checked.is_ok() {
+        if refusal == 0 {
             marks[first] = Mark::Masked as u8;
             factor_a[first] = a as u8;
             factor_b[first] = b as u8;
         }
         Answer {
-            refusal: refusal::number_of(checked),
+            refusal,
             value: 0,
             session: Session {
                 marks,
@@ -250,26 +257,27 @@ impl Session {
     }
 
     // The same, of a finish's first call: the masks of the triple at `first` were opened to y_a and y_b.
-    pub fn answer_collecting(
+    pub fn answer_collecting<R: HasNumber>(
         self,
-        checked: Result<(), Refusal>,
+        checked: R,
         first: usize,
         y_a: u32,
         y_b: u32,
     ) -> Answer
-        requires { Allows (refused checked) (first ≤ last_triple) }
-        ensures { result ≡ answer (refused checked) 0 (collected_triple self first y_a y_b) self }
+        requires { Allows (R.numbered checked) (first ≤ last_triple) }
+        ensures { result ≡ answer (R.numbered checked) 0 (collected_triple self first y_a y_b) self }
     {
+        let refusal = checked.as_number();
         let mut marks = self.marks;
         let mut opened_a = self.y_a;
         let mut opened_b = self.y_b;
-        if checked.is_ok() {
+        if refusal == 0 {
             marks[first] = Mark::Collected as u8;
             opened_a[first] = y_a;
             opened_b[first] = y_b;
         }
         Answer {
-            refusal: refusal::number_of(checked),
+            refusal,
             value: 0,
             session: Session {
                 marks,
@@ -281,15 +289,16 @@ impl Session {
     }
 
     // How a finish's second call ends: the third row bars whom a factor row bars.
-    pub fn answer_multiplying(self, checked: Result<(), Refusal>, first: usize) -> Answer
-        requires { Allows (refused checked) (first ≤ last_triple) }
-        ensures { result ≡ answer (refused checked) 0 (finished_triple self first) self }
+    pub fn answer_multiplying<R: HasNumber>(self, checked: R, first: usize) -> Answer
+        requires { Allows (R.numbered checked) (first ≤ last_triple) }
+        ensures { result ≡ answer (R.numbered checked) 0 (finished_triple self first) self }
     {
+        let refusal = checked.as_number();
         let mut marks = self.marks;
         let mut barred = self.barred;
         let factors_a = self.factor_a;
         let factors_b = self.factor_b;
-        if checked.is_ok() {
+        if refusal == 0 {
             let a = factors_a[first] as usize;
             let b = factors_b[first] as usize;
             callers::share(&mut barred, first + 2, a, b);
@@ -298,7 +307,7 @@ impl Session {
             marks[first + 2] = Mark::Held as u8;
         }
         Answer {
-            refusal: refusal::number_of(checked),
+            refusal,
             value: 0,
             session: Session {
                 marks,

@@ -32,7 +32,7 @@ fn refused(refusal: Refusal) -> Answer
         second: 0,
     };
     let unmade = Session::new(0, 0, 0, 0, none);
-    unmade.session.answer(Err(refusal))
+    unmade.session.answer(Err::<(), Refusal>(refusal))
 }
 
 // 1 to 4 of a start line, or its session.

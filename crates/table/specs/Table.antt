@@ -9,7 +9,7 @@ use Rattle.factory.specs.Calls.{dealer_number_of}
 use Rattle.session.specs.declared.Session.{Session}
 use Rattle.session.specs.Sessions.{created}
 use Rattle.session.specs.Rows.{sums_at_of, coefficients, plus_sums}
-use Rattle.opening.specs.Walking.{accepts, share, accepted_posts, opened_row}
+use Rattle.opening.specs.Walking.{accepts, share, accepted_posts, opened_row, told}
 use Rattle.product_masks.specs.Masks.{less}
 use Rattle.collect.specs.Collect.{OpenedMasks, opened_both}
 use Rattle.multiply.specs.Multiply.{product_row}
@@ -131,15 +131,20 @@ pub record Table : Type 0 where
   -- "posts 1 and 2 give 100, posts 2 and 3 give 100."
   pub p8_by : accepted_posts (session_at 1) (dealt_row 1) (from_post2 3 1) ≡ 1 ∷ 2 ∷ []
   pub p8_gives : opened_row (session_at 1) (dealt_row 1) (from_post2 3 1) ≡ Ok 100
+  pub p8_told : told (opened_row (session_at 1) (dealt_row 1) (from_post2 3 1)) ≡ record { refusal = 0; value = 100 }
   pub p8_by' : accepted_posts (session_at 3) (dealt_row 3) (from_post2 3 1) ≡ 2 ∷ 3 ∷ []
   pub p8_gives' : opened_row (session_at 3) (dealt_row 3) (from_post2 3 1) ≡ Ok 100
+  pub p8_told' : told (opened_row (session_at 3) (dealt_row 3) (from_post2 3 1)) ≡ record { refusal = 0; value = 100 }
   -- 02, (iv): with post 3's polynomial beside the false one of P7 the shares are 104, 110, 112, and post 1 gets 13.
   pub disagreeing : opened_row (session_at 1) (dealt_row 1) false_and_true ≡ Err InconsistentShares
+  pub disagreeing_told : told (opened_row (session_at 1) (dealt_row 1) false_and_true) ≡ record { refusal = 13; value = 0 }
   -- P9 "a = 6, b = 7, l = 2, l' = 5: y = 4, y' = 2, product 42.", at each post
   pub p9 : map masks_opened (1 ∷ 2 ∷ 3 ∷ [])
       ≡ record { refusal = 0; y_a = 4; y_b = 2 } ∷ record { refusal = 0; y_a = 4; y_b = 2 } ∷ record { refusal = 0; y_a = 4; y_b = 2 } ∷ []
   pub p9_product : map (λ i. opened_row (session_at i) (multiplied i) (from_all_of multiplied)) (1 ∷ 2 ∷ 3 ∷ [])
       ≡ Ok 42 ∷ Ok 42 ∷ Ok 42 ∷ []
+  pub p9_told : map (λ i. told (opened_row (session_at i) (multiplied i) (from_all_of multiplied))) (1 ∷ 2 ∷ 3 ∷ [])
+      ≡ record { refusal = 0; value = 42 } ∷ record { refusal = 0; value = 42 } ∷ record { refusal = 0; value = 42 } ∷ []
   -- P10 "`D,0,93` reads and writes back; `D,0,093` gets 10."
   pub p10_reads : Reads
   pub p10_writes : Writes

@@ -9,7 +9,7 @@ use Rattle.session.specs.declared.Session.{Session}
 use Rattle.session.specs.declared.Answer.{Answer}
 use Rattle.session.specs.Sessions.{created}
 use Rattle.session.specs.Rows.{sums_at_of, plus_sums}
-use Rattle.opening.specs.Walking.{accepts, share, accepted_posts, opened_row}
+use Rattle.opening.specs.Walking.{accepts, share, accepted_posts, opened_row, told}
 use Rattle.forms.specs.Lines.{opening, text}
 use Rattle.forms.specs.Forms.{message}
 use Rattle.lines.specs.Reading.{read_refusal, line_as, list_as}
@@ -103,8 +103,11 @@ pub record TwoPoints : Type 0 where
   pub share2 : share session1 (dealt session1 row1) (from_post2 3 1 2) 2 ≡ 108
   pub by : accepted_posts session1 (dealt session1 row1) (from_post2 3 1 2) ≡ 1 ∷ 2 ∷ []
   pub gives : opened_row session1 (dealt session1 row1) (from_post2 3 1 2) ≡ Ok 100
+  pub gives_told : told (opened_row session1 (dealt session1 row1) (from_post2 3 1 2)) ≡ record { refusal = 0; value = 100 }
   pub all_give : opened_row session1 (dealt session1 row1) from_both ≡ Ok 100
+  pub all_give_told : told (opened_row session1 (dealt session1 row1) from_both) ≡ record { refusal = 0; value = 100 }
   pub too_few : opened_row session1 (dealt session1 row1) (from_post2 13 0 0) ≡ Err TooFewAccepted
+  pub too_few_told : told (opened_row session1 (dealt session1 row1) (from_post2 13 0 0)) ≡ record { refusal = 9; value = 0 }
   -- "Messages have 2t+1 coefficients, and the list of a line read twice that"
   pub line : text (opening 0 2 (3 ∷ 1 ∷ 2 ∷ [])) ≡ opening_line
   pub line_read : line_as (read_refusal 3 1 2 opening_line lent) (message 3 opening_line) ≡ record { refusal = 0; letter = 79; row = 0; post = 2 }

@@ -17,7 +17,8 @@ use Rattle.session.specs.declared.Party.{Party}
 use Rattle.refusal.specs.declared.Refusal.{Refusal}
 use Rattle.refusal.specs.declared.Refusal.TheVariants.{TooFewAccepted, InconsistentShares}
 use Rattle.accepting.specs.Accepting.{passing, accepts, share, accepted_posts, accepted, further, too_few_of, disagree, opened}
-use Rattle.walk.specs.Number.{or_nine, opened_row, outcome_of, answer_of}
+use Rattle.refusal.specs.Refusal.{◌when◌, first, outcome}
+use Rattle.walk.specs.Number.{or_nine, opened_row, Told, told, outcome_of, answer_of, told_of}
 use Rattle.walk.specs.Between.{WalkedAs, BehindIn, FurtherAs, agreed_on}
 use Rattle.walk.specs.Claims.{OutcomeAnswers}
 use Rattle.accepting.proofs.Accepted.{takes_first}
@@ -136,9 +137,26 @@ module _ (q : Party) (row blocks : List ℕ) where
   pub opens_few : (end : Option ℕ) → end ≡ None → Err TooFewAccepted ≡ answer_of end (disagree q row blocks) (opened q row blocks)
   opens_few end e = ap (λ (w : Option ℕ). answer_of w (disagree q row blocks) (opened q row blocks)) (sym e)
 
+-- what is told of a row's opening, by the tests of 9 and 13
+abbrev pub opening_of : ℕ → ℕ → Told
+opening_of k v = outcome k (record { refusal = 0; value = v }) (record { refusal = k; value = 0 })
+
+abbrev pub decided : Bool → Bool → ℕ → Told
+decided few off v = opening_of (first (9 when few ∷ 13 when off ∷ [])) v
+
+pub opened_decided : (q : Party) (row blocks : List ℕ)
+    → told (opened_row q row blocks) ≡ decided (too_few_of q row blocks) (disagree q row blocks) (opened q row blocks)
+unfolding outcome
+opened_decided q row blocks = go (too_few_of q row blocks) (disagree q row blocks)
+  where
+    go : (few off : Bool) → told (or_nine few off (opened q row blocks)) ≡ decided few off (opened q row blocks)
+    go true off = refl
+    go false true = refl
+    go false false = refl
+
 -- by the walk's two cases
-pub outcome_answers : OutcomeAnswers
-outcome_answers q row blocks = go (outcome_of q row blocks) (counted q row blocks)
+answered : (q : Party) (row blocks : List ℕ) → opened_row q row blocks ≡ answer_of (outcome_of q row blocks) (disagree q row blocks) (opened q row blocks)
+answered q row blocks = go (outcome_of q row blocks) (counted q row blocks)
   where
     off : Bool
     off = disagree q row blocks
@@ -153,8 +171,17 @@ outcome_answers q row blocks = go (outcome_of q row blocks) (counted q row block
         let same : length (accepted_posts q row blocks) ≡ needed q.shape = h in
         rw (le-ltb (length (accepted_posts q row blocks)) (needed q.shape) (omega arith))
 
+numbers_told : (end : Option ℕ) (off : Bool) (v : ℕ) → told (answer_of end off v) ≡ told_of end off v
+numbers_told None off v = refl
+numbers_told (Some last) true v = refl
+numbers_told (Some last) false v = refl
+
+pub outcome_answers : OutcomeAnswers
+outcome_answers q row blocks =
+    (answered q row blocks, ap told (answered q row blocks) ∙ numbers_told (outcome_of q row blocks) (disagree q row blocks) (opened q row blocks))
+
 -- what the walk's outcome answers is what the row opens to
 pub row_settled : (q : Party) (row blocks : List ℕ) (end : Option ℕ) (posts shares : List ℕ) → WalkedAs q row blocks end posts shares
     → (r : Result ℕ Refusal) → r ≡ answer_of end (disagree q row blocks) (opened q row blocks) → r ≡ opened_row q row blocks
 row_settled q row blocks end posts shares w r e =
-    e ∙ ap (λ (o : Option ℕ). answer_of o (disagree q row blocks) (opened q row blocks)) w.ended ∙ sym (outcome_answers q row blocks)
+    e ∙ ap (λ (o : Option ℕ). answer_of o (disagree q row blocks) (opened q row blocks)) w.ended ∙ sym (answered q row blocks)

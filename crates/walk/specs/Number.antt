@@ -3,6 +3,7 @@ use Rattle.std.specs.Prelude.{ℕ, zero, suc, ◌-◌, Bool, true, false, Option
 use Rattle.std.specs.Result.{result_unwrap_or}
 use Rattle.refusal.specs.declared.Refusal.{Refusal}
 use Rattle.refusal.specs.declared.Refusal.TheVariants.{TooFewAccepted, InconsistentShares}
+use Rattle.refusal.specs.Numbers.{refused}
 use Rattle.shape.specs.Lengths.{needed}
 use Rattle.session.specs.declared.Party.{Party}
 use Rattle.accepting.specs.Accepting.{accepts, too_few_of, disagree, opened}
@@ -10,6 +11,14 @@ use Rattle.accepting.specs.Accepting.{accepts, too_few_of, disagree, opened}
 -- The number, or 0 where there is none: what an answer shows beside a refusal.
 abbrev pub value_or_zero : Result ℕ Refusal → ℕ
 value_or_zero found = result_unwrap_or found 0
+
+-- What an answer tells of it: the refusal's number, 0 for none, and the value.
+pub record Told : Type 0 where
+  pub refusal : ℕ
+  pub value : ℕ
+
+abbrev pub told : Result ℕ Refusal → Told
+told found = record { refusal = refused found; value = value_or_zero found }
 
 -- 13 where a further share disagrees, else the number
 abbrev pub or_thirteen : Bool → ℕ → Result ℕ Refusal
@@ -35,8 +44,14 @@ walk_end_of test j (suc k) (suc need) =
 abbrev pub outcome_of : Party → List ℕ → List ℕ → Option ℕ
 outcome_of q row blocks = walk_end_of (accepts q row blocks) 1 q.shape.n (needed q.shape)
 
--- "If an answer is an enum, a definition gives this paper's number and values for each of the enum's cases": 9 where the
--- walk found too few; where it found enough, the number, or 13 where a further share is off.
+-- What the walk's outcome opens to: 9 where it found too few; where it found enough, the number, or 13 where a further share is off.
 abbrev pub answer_of : Option ℕ → Bool → ℕ → Result ℕ Refusal
 answer_of None off value = Err TooFewAccepted
 answer_of (Some last) off value = or_thirteen off value
+
+-- "If an answer is an enum, a definition gives this paper's number and values for each of the enum's cases": 9 with 0 where the
+-- walk found too few; where it found enough, the number, or 13 with 0 where a further share is off.
+abbrev pub told_of : Option ℕ → Bool → ℕ → Told
+told_of None off value = record { refusal = 9; value = 0 }
+told_of (Some last) true value = record { refusal = 13; value = 0 }
+told_of (Some last) false value = record { refusal = 0; value = value }

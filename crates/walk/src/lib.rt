@@ -31,9 +31,9 @@ pub fn walk_posts(
     let need = shape.needed();
     let mut count = 0;
     for j in 1..n + 1 {
-        if accepting::accepts(opening, j, marks) {
+        if accepting::accepts(opening.party, opening.row, opening.blocks, j, marks) {
             posts[count] = j as u32;
-            shares[count] = accepting::share(opening, j, marks);
+            shares[count] = accepting::share(opening.party, opening.row, opening.blocks, j, marks);
             count += 1;
             if count == need {
                 return Some(j);
@@ -63,9 +63,9 @@ fn walk_further(
     let next = last + 1;
     let mut count = need;
     for j in next..n + 1 {
-        if accepting::accepts(opening, j, marks) {
+        if accepting::accepts(opening.party, opening.row, opening.blocks, j, marks) {
             posts[count] = j as u32;
-            shares[count] = accepting::share(opening, j, marks);
+            shares[count] = accepting::share(opening.party, opening.row, opening.blocks, j, marks);
             count += 1;
         }
     }

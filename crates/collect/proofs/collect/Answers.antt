@@ -4,11 +4,10 @@ use Rattle.collect.proofs.collect.Goals as goal
 
 pub answer_collecting-requires : goal.answer_collecting-requires
 answer_collecting-requires c =
-    let told = c.tell-told.ensures in
-    collect_allows c.args.session c.args.rows.now c.args.first c.args.record_a.now c.args.record_b.now c.open_masks.result c.open_masks.ensures _ told.0
+    collect_allows c.args.session c.args.rows.now c.args.first c.args.record_a.now c.args.record_b.now c.tell-told.result.checked c.tell-told.ensures.0
 
 pub returns : goal.returns
 returns c =
     let told = c.tell-told.ensures in
-    collect_ended c.args.session c.args.rows.now c.args.first c.args.record_a.now c.args.record_b.now c.open_masks.result c.open_masks.ensures _ told.0
+    collect_ended c.args.session c.args.rows.now c.args.first c.args.record_a.now c.args.record_b.now c.tell-told.result.checked told.0
     _ _ told.1 told.2 _ c.answer_collecting.ensures

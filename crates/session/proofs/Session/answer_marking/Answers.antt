@@ -1,15 +1,14 @@
 -- `Session::answer_marking` meets its contract. Where the two ways meet, the list is what the way left.
-use mathlib.Core.Path.{sym, ◌∙◌, ap}
+use mathlib.Core.Path.{◌∙◌, ap}
 use lib.ListN.{set}
-use Rattle.refusal.proofs.Checks.{ok_zero, err_not_zero}
-use Rattle.session.proofs.Endings.{numbered_answer, marks_written, marks_kept}
+use Rattle.session.proofs.Endings.{answered_by, marks_written, marks_kept}
 use Rattle.session.proofs.Session.answer_marking.Goals as goal
-use Rattle.session.proofs.Session.answer_marking.Goals.{then-is_ok, else-is_ok}
+use Rattle.session.proofs.Session.answer_marking.Goals.{then-refusal-eq0, else-refusal-eq0}
 
 pub returns : goal.returns
-returns c =
-    numbered_answer _ _ _ _ c.number_of.ensures
-    (elim c.if-is_ok.branch [
-      | then-is_ok w ↦ marks_written _ c.args.self _ _ (ok_zero c.args.checked (sym c.is_ok.ensures.value ∙ w.if-is_ok.true)) (w.marks-is ∙ ap (set c.args.self.marks c.args.row) w.number.ensures)
-      | else-is_ok w ↦ marks_kept _ c.args.self _ _ (err_not_zero c.args.checked (sym c.is_ok.ensures.value ∙ w.if-is_ok.false)) w.marks-is
-    ])
+returns g c =
+    answered_by _ _ _ _ _ _
+    (elim c.if-refusal-eq0.branch [
+      | then-refusal-eq0 w ↦ marks_written _ c.args.self _ _ w.if-refusal-eq0.true (w.marks-is ∙ ap (set c.args.self.marks c.args.row) w.as_number.ensures)
+      | else-refusal-eq0 w ↦ marks_kept _ c.args.self _ _ w.if-refusal-eq0.false w.marks-is
+    ]) c.as_number-refusal.ensures

@@ -1,18 +1,16 @@
 -- `Session::answer_multiplying` meets its contract. Where the two ways meet, the lists are what the way left.
-use mathlib.Core.Path.{◌∙◌, sym}
+use mathlib.Core.Path.{◌∙◌}
 use Rattle.session.specs.Sessions.{finished_triple}
 use Rattle.session.proofs.Sharing.{made_of}
-use Rattle.refusal.specs.Numbers.{refused}
-use Rattle.refusal.proofs.Checks.{ok_zero, err_not_zero}
-use Rattle.session.proofs.Endings.{numbered_answer, made_accepted, made_refused}
+use Rattle.session.proofs.Endings.{answered_by, made_accepted, made_refused}
 use Rattle.session.proofs.Session.answer_multiplying.Goals as goal
-use Rattle.session.proofs.Session.answer_multiplying.Goals.{then-is_ok, else-is_ok}
+use Rattle.session.proofs.Session.answer_multiplying.Goals.{then-refusal-eq0, else-refusal-eq0}
 
 pub returns : goal.returns
-returns c =
+returns g c =
     let new = finished_triple c.args.self c.args.first in
-    numbered_answer _ _ _ _ c.number_of.ensures
-    (elim c.if-is_ok.branch [
-      | then-is_ok w ↦ made_accepted (refused c.args.checked) new c.args.self _ (ok_zero c.args.checked (sym c.is_ok.ensures.value ∙ w.if-is_ok.true)) (made_of c.args.self _ _ _ _ w.marks-is (w.barred-is ∙ w.share.ensures))
-      | else-is_ok w ↦ made_refused (refused c.args.checked) new c.args.self _ (err_not_zero c.args.checked (sym c.is_ok.ensures.value ∙ w.if-is_ok.false)) (made_of c.args.self _ _ _ _ w.marks-is w.barred-is)
-    ])
+    answered_by _ _ _ _ _ _
+    (elim c.if-refusal-eq0.branch [
+      | then-refusal-eq0 w ↦ made_accepted _ new c.args.self _ w.if-refusal-eq0.true (made_of c.args.self _ _ _ _ w.marks-is (w.barred-is ∙ w.share.ensures))
+      | else-refusal-eq0 w ↦ made_refused _ new c.args.self _ w.if-refusal-eq0.false (made_of c.args.self _ _ _ _ w.marks-is w.barred-is)
+    ]) c.as_number-refusal.ensures
