@@ -68,18 +68,25 @@ pub both_opened : (q : Party) (rows record_a_of record_b_of x y : List ℕ) (a b
     → ◌≡◌ {A = OpenedPair} (record { a = o; b = o' }) (opened_pair q rows a b r record_a_of record_b_of)
 both_opened q rows record_a_of record_b_of x y a b r o o' ex ey eo eo' = rw (eo, eo', ex, ey) refl
 
--- the refusal of two openings, as the code chooses it
-second_of : (x : Bool) (a b : ℕ) → eqb b 9 ≡ x → (x || eqb a 0) ≡ true → b ≡ cond x 9 (or_else a b)
-second_of true a b e h = eqb-true b 9 e
-second_of false a b e h = sym (ap (λ (y : ℕ). or_else y b) (eqb-true a 0 h))
+-- the refusal of two openings: 9 of the second, or else the first that there is
+pub either_nine : (a b : ℕ) → eqb b 9 ≡ true → b ≡ either_of a b
+either_nine a b e = rw e (eqb-true b 9 e)
 
-first_of : (x : Bool) (a b : ℕ) → (x || eqb a 0) ≡ false → a ≡ cond x 9 (or_else a b)
-first_of true a b h = absurd (true≢false h)
-first_of false zero b h = absurd (eqb-false 0 0 h refl)
-first_of false (suc k) b h = refl
+pub either_other : (a b r : ℕ) → eqb b 9 ≡ false → r ≡ or_else a b → r ≡ either_of a b
+either_other a b r e h = rw e h
+
+-- as the code chooses it
+second_of : (x : Bool) (a b : ℕ) → eqb b 9 ≡ x → (x || eqb a 0) ≡ true → b ≡ either_of a b
+second_of true a b e h = either_nine a b e
+second_of false a b e h = either_other a b b e (sym (ap (λ (y : ℕ). or_else y b) (eqb-true a 0 h)))
+
+first_of : (x : Bool) (a b : ℕ) → eqb b 9 ≡ x → (x || eqb a 0) ≡ false → a ≡ either_of a b
+first_of true a b e h = absurd (true≢false h)
+first_of false zero b e h = absurd (eqb-false 0 0 h refl)
+first_of false (suc k) b e h = either_other (suc k) b (suc k) e refl
 
 pub either_second : (a b : ℕ) → (eqb b 9 || eqb a 0) ≡ true → b ≡ either_of a b
 either_second a b = second_of (eqb b 9) a b refl
 
 pub either_first : (a b : ℕ) → (eqb b 9 || eqb a 0) ≡ false → a ≡ either_of a b
-either_first a b = first_of (eqb b 9) a b
+either_first a b = first_of (eqb b 9) a b refl
